@@ -14,13 +14,13 @@ unfolding least
 least-le p zero i h t = absurd (omega arith)
 least-le p (suc n) i h t = ⊎-elim
     (λ (e : i < n).
-        let r = least-le p n i e t in
-        let s : least p (suc n) ≡ least p n = cond-true (ltb (least p n) n) _ _ (lt-ltb (least p n) n (omega arith)) in
-        omega arith)
+    let r = least-le p n i e t in
+    let s : least p (suc n) ≡ least p n = cond-true (ltb (least p n) n) _ _ (lt-ltb (least p n) n (omega arith)) in
+    omega arith)
     (λ (e : n ≤ i).
-        let q : i ≡ n = omega arith in
-        cond-both (ltb (least p n) n) _ _ (λ x. x ≤ i) (λ u. let u1 = ltb-true (least p n) n u in omega arith)
-          (λ u. let s : cond (p n) n (suc n) ≡ n = cond-true (p n) n (suc n) (ap p (sym q) ∙ t) in omega arith))
+    let q : i ≡ n = omega arith in
+    cond-both (ltb (least p n) n) _ _ (λ x. x ≤ i) (λ u. let u1 = ltb-true (least p n) n u in omega arith)
+    (λ u. let s : cond (p n) n (suc n) ≡ n = cond-true (p n) n (suc n) (ap p (sym q) ∙ t) in omega arith))
     (cases-lt i n)
 
 pub least-passes : (p : ℕ → Bool) (n : ℕ) → least p n < n → p (least p n) ≡ true
@@ -44,10 +44,10 @@ unfolding least
 least-found p zero i h e t = absurd (omega arith)
 least-found p (suc n) i h e t = ⊎-elim
     (λ (l : i < n).
-        let r = least-found p n i l e t in
-        cond-true (ltb (least p n) n) _ _ (lt-ltb (least p n) n (omega arith)) ∙ r)
+    let r = least-found p n i l e t in
+    cond-true (ltb (least p n) n) _ _ (lt-ltb (least p n) n (omega arith)) ∙ r)
     (λ (l : n ≤ i).
-        let q : i ≡ n = omega arith in
-        let r : least p n ≡ n = ap (least p) (sym q) ∙ e ∙ q in
-        cond-false (ltb (least p n) n) _ _ (le-ltb (least p n) n (omega arith)) ∙ cond-true (p n) n (suc n) (ap p (sym q) ∙ t) ∙ sym q)
+    let q : i ≡ n = omega arith in
+    let r : least p n ≡ n = ap (least p) (sym q) ∙ e ∙ q in
+    cond-false (ltb (least p n) n) _ _ (le-ltb (least p n) n (omega arith)) ∙ cond-true (p n) n (suc n) (ap p (sym q) ∙ t) ∙ sym q)
     (cases-lt i n)

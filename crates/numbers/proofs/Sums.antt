@@ -63,13 +63,13 @@ unfolding sumTo
 sum-one zero j f l h = absurd (omega arith)
 sum-one (suc n) j f l h = ⊎-elim
     (λ (e : n ≡ j).
-        let z = sum-zero n f (λ i k. h i (omega arith) (omega arith)) in
-        let s : f n ≡ f j = ap f e in
-        omega (arith, ints))
+    let z = sum-zero n f (λ i k. h i (omega arith) (omega arith)) in
+    let s : f n ≡ f j = ap f e in
+    omega (arith, ints))
     (λ (d : n ≡ j → ⊥).
-        let e = sum-one n j f (omega arith) (λ i k. h i (omega arith)) in
-        let z = h n (omega arith) d in
-        omega (arith, ints))
+    let e = sum-one n j f (omega arith) (λ i k. h i (omega arith)) in
+    let z = h n (omega arith) d in
+    omega (arith, ints))
     (cases-eq n j)
 
 -- a term, or two, is at most the sum of terms that are not negative
@@ -78,13 +78,13 @@ unfolding sumTo
 sum-over-one zero j f h l = absurd (omega arith)
 sum-over-one (suc n) j f h l = ⊎-elim
     (λ (e : n ≡ j).
-        let z = sum-nonneg n f (λ i k. h i (omega arith)) in
-        let s : f n ≡ f j = ap f e in
-        omega (arith, ints))
+    let z = sum-nonneg n f (λ i k. h i (omega arith)) in
+    let s : f n ≡ f j = ap f e in
+    omega (arith, ints))
     (λ (d : n ≡ j → ⊥).
-        let e = sum-over-one n j f (λ i k. h i (omega arith)) (omega arith) in
-        let z = h n (omega arith) in
-        omega (arith, ints))
+    let e = sum-over-one n j f (λ i k. h i (omega arith)) (omega arith) in
+    let z = h n (omega arith) in
+    omega (arith, ints))
     (cases-eq n j)
 
 pub sum-over-two : (n j k : ℕ) (f : ℕ → ℤ) → ((i : ℕ) → i < n → pos 0 ≤ℤ f i) → j < n → k < n → (j ≡ k → ⊥) → (f j +ℤ f k) ≤ℤ sumTo n f
@@ -92,19 +92,19 @@ unfolding sumTo
 sum-over-two zero j k f h l o d = absurd (omega arith)
 sum-over-two (suc n) j k f h l o d = ⊎-elim
     (λ (e : n ≡ j).
-        let z = sum-over-one n k f (λ i p. h i (omega arith)) (omega arith) in
-        let s : f n ≡ f j = ap f e in
-        omega (arith, ints))
+    let z = sum-over-one n k f (λ i p. h i (omega arith)) (omega arith) in
+    let s : f n ≡ f j = ap f e in
+    omega (arith, ints))
     (λ (a : n ≡ j → ⊥). ⊎-elim
-        (λ (e : n ≡ k).
-            let z = sum-over-one n j f (λ i p. h i (omega arith)) (omega arith) in
-            let s : f n ≡ f k = ap f e in
-            omega (arith, ints))
-        (λ (b : n ≡ k → ⊥).
-            let e = sum-over-two n j k f (λ i p. h i (omega arith)) (omega arith) (omega arith) d in
-            let z = h n (omega arith) in
-            omega (arith, ints))
-        (cases-eq n k))
+    (λ (e : n ≡ k).
+    let z = sum-over-one n j f (λ i p. h i (omega arith)) (omega arith) in
+    let s : f n ≡ f k = ap f e in
+    omega (arith, ints))
+    (λ (b : n ≡ k → ⊥).
+    let e = sum-over-two n j k f (λ i p. h i (omega arith)) (omega arith) (omega arith) d in
+    let z = h n (omega arith) in
+    omega (arith, ints))
+    (cases-eq n k))
     (cases-eq n j)
 
 cases-zero : (z : ℤ) → (z ≡ pos 0) ⊎ (z ≡ pos 0 → ⊥)
@@ -118,12 +118,12 @@ unfolding sumTo
 sum-lone zero f d p b h = p
 sum-lone (suc n) f d p b h = ⊎-elim
     (λ (e : f n ≡ pos 0).
-        let s = sum-lone n f d p (λ i l. b i (omega arith)) (λ i j l k. h i j (omega arith) (omega arith)) in
-        omega (arith, ints))
+    let s = sum-lone n f d p (λ i l. b i (omega arith)) (λ i j l k. h i j (omega arith) (omega arith)) in
+    omega (arith, ints))
     (λ (e : f n ≡ pos 0 → ⊥).
-        let z = sum-zero n f (λ i l. ⊎-elim (λ (u : f i ≡ pos 0). u) (λ (u : f n ≡ pos 0). absurd (e u)) (h i n (omega arith) (omega arith) (omega arith))) in
-        let l = b n (omega arith) in
-        omega (arith, ints))
+    let z = sum-zero n f (λ i l. ⊎-elim (λ (u : f i ≡ pos 0). u) (λ (u : f n ≡ pos 0). absurd (e u)) (h i n (omega arith) (omega arith) (omega arith))) in
+    let l = b n (omega arith) in
+    omega (arith, ints))
     (cases-zero (f n))
 
 -- the start and the step of a loop that sums
