@@ -1,11 +1,11 @@
 -- Laws of products of whole numbers.
-use mathlib.Core.Path.{_≡_, ap}
-use Prim.Native.Nat.{ℕ, suc, _*_}
+use mathlib.Core.Path.{_≡_, refl, sym, ap, _∙_}
+use Prim.Native.Nat.{ℕ, zero, suc, _*_}
 use native.Mathlib.Nat.{mul-le-mul-left}
 use native.Mathlib.Omega.{arith}
 use borrow.Author.Differences.{up, down, sum-is, product-is, le-out}
-use lib.IntN.{ℤ, pos, negsuc, _+ℤ_, _-ℤ_, _*ℤ_}
-use lib.Signed.{_≤ℤ_}
+use lib.IntN.{ℤ, pos, negsuc, negℤ, _+ℤ_, _-ℤ_, _*ℤ_, zero-*ℤ, *ℤ-comm}
+use lib.Signed.{_≤ℤ_, _<ℤ_}
 use Rattle.std.specs.Numbers.{maxZ}
 use Rattle.std.proofs.shelf.Signed.{ints, clamps}
 
@@ -31,6 +31,32 @@ add-mul a b c = omega (arith, ints, ap (λ n. n * up c) (sum-is a b), ap (λ n. 
 
 pub mul-add : (a b c : ℤ) → a *ℤ (b +ℤ c) ≡ (a *ℤ b) +ℤ (a *ℤ c)
 mul-add a b c = omega (arith, ints, ap (λ n. up a * n) (sum-is b c), ap (λ n. down a * n) (sum-is b c))
+
+pub neg-mul : (a b : ℤ) → negℤ a *ℤ b ≡ negℤ (a *ℤ b)
+neg-mul (pos zero) b = zero-*ℤ b ∙ sym (ap negℤ (zero-*ℤ b))
+neg-mul (pos (suc a)) (pos b) = refl
+neg-mul (pos (suc a)) (negsuc b) = omega (arith, ints)
+neg-mul (negsuc a) (pos b) = omega (arith, ints)
+neg-mul (negsuc a) (negsuc b) = refl
+
+pub mul-neg : (a b : ℤ) → a *ℤ negℤ b ≡ negℤ (a *ℤ b)
+mul-neg a b = *ℤ-comm a (negℤ b) ∙ neg-mul b a ∙ ap negℤ (*ℤ-comm b a)
+
+pub one-mul : (a : ℤ) → pos 1 *ℤ a ≡ a
+one-mul a = omega (arith, ints)
+
+-- the sign of a product with a factor above 0
+pub sign-in : (x g : ℤ) → pos 0 <ℤ x → pos 0 ≤ℤ g → pos 0 ≤ℤ (x *ℤ g)
+sign-in (pos zero) g h k = absurd (omega (arith, ints))
+sign-in (pos (suc n)) (pos a) h k = omega (arith, ints)
+sign-in (pos (suc n)) (negsuc a) h k = absurd (omega (arith, ints))
+sign-in (negsuc n) g h k = absurd (omega (arith, ints))
+
+pub sign-out : (x g : ℤ) → pos 0 <ℤ x → pos 0 ≤ℤ (x *ℤ g) → pos 0 ≤ℤ g
+sign-out (pos zero) g h k = absurd (omega (arith, ints))
+sign-out (pos (suc n)) (pos a) h k = omega (arith, ints)
+sign-out (pos (suc n)) (negsuc a) h k = absurd (omega (arith, ints))
+sign-out (negsuc n) g h k = absurd (omega (arith, ints))
 
 -- by a number that is not negative
 pub mul-le : (n : ℕ) (a b : ℤ) → a ≤ℤ b → (pos n *ℤ a) ≤ℤ (pos n *ℤ b)

@@ -1,7 +1,7 @@
 -- Laws of sumTo, each proved once for every f.
 use mathlib.Core.Path.{_≡_, refl, sym, ap, _∙_}
 use mathlib.Core.Logic.{_⊎_, inl, inr, ⊎-elim}
-use Prim.Native.Nat.{ℕ, zero, suc, _+_, _≤_, _<_}
+use Prim.Native.Nat.{ℕ, zero, suc, _+_, _-_, _≤_, _<_}
 use native.Mathlib.Nat.{add-zero, add-suc}
 use native.Mathlib.Numerals.{add-one}
 use native.Mathlib.Omega.{arith}
@@ -48,6 +48,12 @@ sum-trim n k f h =
     let e = sum-split n k f in
     let z = sum-zero k (λ i. f (n + i)) (λ i l. h (n + i) (omega arith) (omega arith)) in
     omega (arith, ints)
+
+-- a sum whose terms from n on are 0
+pub sum-short : (n k : ℕ) (f : ℕ → ℤ) → n ≤ k → ((i : ℕ) → n ≤ i → f i ≡ pos 0) → sumTo k f ≡ sumTo n f
+sum-short n k f l h =
+    let e : n + (k - n) ≡ k = omega arith in
+    ap (λ (j : ℕ). sumTo j f) (sym e) ∙ sum-trim n (k - n) f (λ i p q. h i p)
 
 pub sum-nonneg : (n : ℕ) (f : ℕ → ℤ) → ((i : ℕ) → i < n → pos 0 ≤ℤ f i) → pos 0 ≤ℤ sumTo n f
 unfolding sumTo
