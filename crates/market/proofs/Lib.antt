@@ -1,0 +1,4 @@
+pub mod Pushing
+pub mod Deciding
+pub mod Books
+pub mod Zeros

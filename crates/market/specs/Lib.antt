@@ -1,0 +1,6 @@
+pub mod Services
+pub mod Market
+pub mod Tests
+pub mod Lines
+pub mod View
+pub mod Lawful
