@@ -103,7 +103,7 @@ fields-at kind (suc n) m bs (suc i) h =
     let there = fields-at kind n (m / 2) (drop (width kind) bs) i (omega arith) in
     later (eqb (m % 2) 0) (pos 0) (value kind bs) (fields kind n (m / 2) bs) (fields kind n (m / 2) (drop (width kind) bs)) i ∙ (λ j. cond (eqb (m % 2) 0) (here j) (there j)) ∙ fieldAt-next kind m bs i _ refl
 
-fields-length : (kind n map : ℕ) (bs : List ℕ) → length (fields kind n map bs) ≡ n
+pub fields-length : (kind n map : ℕ) (bs : List ℕ) → length (fields kind n map bs) ≡ n
 unfolding fields
 fields-length kind zero map bs = refl
 fields-length kind (suc n) map bs =

@@ -1,6 +1,6 @@
 pub mod Faults
 pub mod Bytes
 pub mod Read
+pub mod Write
 pub mod Taken
 pub mod Readers
-pub mod Write

@@ -1,6 +1,6 @@
 -- What a reader reads, and what its calls promise.
 use mathlib.Core.Path.{_≡_}
-use mathlib.Core.List.{List}
+use mathlib.Core.List.{List, []}
 use Prim.Native.Nat.{ℕ, _+_, _≤_, _<_}
 use lib.ListN.{length, drop}
 use Rattle.std.specs.declared.option.Option.{Option}
@@ -12,7 +12,8 @@ use Rattle.records.specs.declared.Kind.{Kind}
 use Rattle.records.specs.declared.Reader.{Reader}
 use Rattle.records.specs.declared.Record.{Record}
 use Rattle.records.specs.declared.Refusal.{Refusal}
-use Rattle.records.specs.Read.{read, content}
+use Rattle.records.specs.Read.{Content, read, content}
+use Rattle.records.specs.Write.{Spelt}
 
 -- the file that it reads, the kinds of its records, and where it stands
 abbrev pub fileOf : Reader → List ℕ
@@ -35,3 +36,9 @@ abbrev pub Next : List Kind → List ℕ → ℕ → Result (Option Record) Refu
 Next kinds file p (Ok None) q = (length file ≤ p) × (q ≡ p)
 Next kinds file p (Ok (Some r)) q = (read kinds (drop p file) ≡ Ok (content r)) × (r .place ≡ p) × (q ≡ p + content r .size) × (q ≤ length file)
 Next kinds file p (Err e) q = (p < length file) × (read kinds (drop p file) ≡ Err (e .fault)) × (e .place ≡ p) × (q ≡ p)
+
+-- a record is handed out exactly where an encoding stands: there it says what is written, and at a fault no record is spelt
+abbrev pub Handed : List Kind → List ℕ → Result (Option Record) Refusal → Type 0
+Handed kinds bs (Ok None) = bs ≡ []
+Handed kinds bs (Ok (Some r)) = Spelt kinds bs (content r)
+Handed kinds bs (Err e) = (c : Content) → Spelt kinds bs c → ⊥

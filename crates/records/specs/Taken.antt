@@ -17,6 +17,7 @@ use Rattle.records.specs.declared.Record.{Record}
 use Rattle.records.specs.declared.fields.Field.{Field}
 use Rattle.records.specs.Bytes.{value, width}
 use Rattle.records.specs.Read.{isZero, hasZero, read, content}
+use Rattle.records.specs.Write.{Spelt}
 
 -- a number of w bytes is taken off the front, unless there are fewer bytes
 abbrev pub Begins : ℕ → (List ℕ → ℤ) → List ℕ → Option Field → Type 0
@@ -35,5 +36,5 @@ Passes zs (Err e) = (hasZero zs ≡ true) × (e ≡ ZeroField)
 
 -- what the bytes begin with, as a record that stands at this place
 abbrev pub Head : List Kind → ℕ → List ℕ → Result Record Fault → Type 0
-Head kinds place bs (Ok r) = (read kinds bs ≡ Ok (content r)) × (r .place ≡ place)
+Head kinds place bs (Ok r) = (read kinds bs ≡ Ok (content r)) × (r .place ≡ place) × Spelt kinds bs (content r)
 Head kinds place bs (Err e) = read kinds bs ≡ Err e

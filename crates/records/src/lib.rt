@@ -4,6 +4,7 @@
 mod faults;
 mod fields;
 mod heads;
+pub mod laws;
 mod readers;
 
 // What can be wrong with a file as a file of records.

@@ -1,8 +1,8 @@
 // The records of a file, one by one.
 ghost use mathlib.Core.Path.{_≡_};
 ghost use lib.Dec.{leb};
-ghost use lib.ListN.{length};
-ghost use Rattle.records.specs.Readers.{fileOf, kindsOf, placeOf, Opened, Next};
+ghost use lib.ListN.{length, drop};
+ghost use Rattle.records.specs.Readers.{fileOf, kindsOf, placeOf, Opened, Next, Handed};
 use super::Fault;
 use super::Kind;
 use super::Reader;
@@ -51,6 +51,7 @@ impl<'a> Reader<'a> {
         ensures file { λ _. ⌜ fileOf (now (self .exit)) ≡ fileOf (now (self .entry)) ⌝ }
         ensures kinds { λ _. ⌜ kindsOf (now (self .exit)) ≡ kindsOf (now (self .entry)) ⌝ }
         ensures reads { λ r. ⌜ Next (kindsOf (now (self .entry))) (fileOf (now (self .entry))) (placeOf (now (self .entry))) r (placeOf (now (self .exit))) ⌝ }
+        ensures spelt { λ r. ⌜ Handed (kindsOf (now (self .entry))) (drop (placeOf (now (self .entry))) (fileOf (now (self .entry)))) r ⌝ }
     {
         if self.at_end() {
             return Ok(None);

@@ -8,6 +8,9 @@ use lib.ListN.{length, take, drop, getD}
 use Rattle.std.proofs.shelf.Bits.{mul-le}
 use Rattle.std.proofs.shelf.Results.{err-from-errBy}
 use Rattle.records.specs.Bytes.{width}
+use Rattle.std.proofs.shelf.Elements.{all-from-getD}
+use Rattle.records.specs.Write.{Byte}
+use Rattle.records.proofs.Spelling.{spelt}
 use Rattle.records.proofs.Bodies.{read-some, body-zero, body-ok}
 use Rattle.records.proofs.heads.head.Needs as need
 
@@ -47,8 +50,8 @@ returns c =
     let size = ap (λ w. w * ones map) (c .field-width .ensures) in
     let long : width (getD left 0 0) * ones map ≤ length (take (length left - 3) (drop 3 left)) = omega (arith, size) in
     let cut = cut-off left (c .field-width .result) map (c .field-width .ensures) in
-    let inside = sym (c .if-has-bit-from .ensures tt) in (
-      read-some (c .args .kinds .now) left map count three (c .from-be-bytes-map .ensures) (c .in-Some .ensures tt)
-          ∙ body-ok (getD left 0 0) map count _ _ long inside cut (c .in-Continue-pass-fields .ensures tt),
-      refl,
-    )
+    let inside = sym (c .if-has-bit-from .ensures tt) in
+    let reads =
+    read-some (c .args .kinds .now) left map count three (c .from-be-bytes-map .ensures) (c .in-Some .ensures tt)
+    ∙ body-ok (getD left 0 0) map count _ _ long inside cut (c .in-Continue-pass-fields .ensures tt) in
+    (reads, refl, spelt (c .args .kinds .now) left _ (all-from-getD Byte left 0 (λ k h. search needs)) reads)
