@@ -1,0 +1,14 @@
+pub mod Steps
+pub mod Parts
+pub mod Duality
+pub mod Holding
+pub mod Copies
+pub mod Reading
+pub mod Outcomes
+pub mod Walks
+pub mod Descent
+pub mod Paths
+pub mod Spelling
+pub mod Sound
+pub mod Bounding
+pub mod Whole

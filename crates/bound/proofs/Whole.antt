@@ -1,0 +1,35 @@
+-- All that is promised of a check, from what it answers.
+use mathlib.Core.Path.{_≡_, sym, _∙_}
+use mathlib.Core.List.{List}
+use Prim.Native.Nat.{ℕ}
+use lib.IntN.{ℤ}
+use Rattle.std.specs.Vec.{made}
+use Rattle.std.specs.shelf.Lists.{All}
+use Rattle.std.specs.declared.result.Result.{Result}
+use Rattle.std.specs.declared.result.Result.the-variants.{Ok, Err}
+use Rattle.records.specs.Write.{Byte}
+use Rattle.bound.specs.declared.faults.Refusal.{Refusal}
+use Rattle.bound.specs.Tables.{Table, Lawful}
+use Rattle.bound.specs.Points.{Bounds}
+use Rattle.bound.specs.Checks.{checked}
+use Rattle.bound.specs.Trees.{Proves, Accepts}
+use Rattle.bound.specs.Layers.{fixed-lawful}
+use Rattle.bound.specs.Piles.{Pile, base, fixing, sheet, tableOf, Stands, Every-pile-is-bounded}
+use Rattle.bound.proofs.Bounding.{tree-bounds}
+use Rattle.bound.proofs.Sound.{checked-fits}
+
+pub checked-bounds : (t : Table) (file : List ℕ) (b : ℤ) → Lawful t → checked t file ≡ Ok b → Bounds t b
+checked-bounds t file b lawful is = let p = checked-fits t file b is in tree-bounds 64 t (p .0) b lawful (p .1) (p .2)
+
+pub all-sound : (t : Table) (lawful : Lawful t) (file : List ℕ) (r : Result ℤ Refusal) → r ≡ checked t file → made r (λ b. Bounds t b)
+all-sound t lawful file (Ok b) is = checked-bounds t file b lawful (sym is)
+all-sound t lawful file (Err e) is = tt
+
+-- a pile that stands is a lawful table
+pile-lawful : (p : Pile) → Stands p → Lawful (tableOf p)
+pile-lawful (base t) stands = stands
+pile-lawful (fixing hs p) stands = fixed-lawful (tableOf p) hs (pile-lawful p (stands .2)) (stands .1)
+pile-lawful (sheet p) stands = pile-lawful p stands
+
+pub every-pile : Every-pile-is-bounded
+every-pile p stands file b is = checked-bounds (tableOf p) file b (pile-lawful p stands) is

@@ -1,0 +1,11 @@
+pub mod Faults
+pub mod Tables
+pub mod Points
+pub mod Leaves
+pub mod Layers
+pub mod Sheets
+pub mod Paths
+pub mod Steps
+pub mod Checks
+pub mod Trees
+pub mod Piles
