@@ -1,7 +1,7 @@
 -- Laws of sumTo, each proved once for every f.
 use mathlib.Core.Path.{_≡_, refl, sym, ap, _∙_}
 use mathlib.Core.Logic.{_⊎_, inl, inr, ⊎-elim}
-use Prim.Native.Nat.{ℕ, zero, suc, _+_, _-_, _≤_, _<_}
+use Prim.Native.Nat.{ℕ, zero, suc, _+_, _-_, _*_, _≤_, _<_}
 use native.Mathlib.Nat.{add-zero, add-suc}
 use native.Mathlib.Numerals.{add-one}
 use native.Mathlib.Omega.{arith}
@@ -9,7 +9,7 @@ use lib.IntN.{ℤ, pos, negsuc, _+ℤ_, _*ℤ_, negℤ, +ℤ-idr, +ℤ-idl, +ℤ
 use lib.Signed.{_≤ℤ_}
 use Rattle.std.proofs.shelf.Signed.{ints}
 use Rattle.std.proofs.shelf.Tests.{cases-lt, cases-eq}
-use Rattle.numbers.specs.Sums.{sumTo}
+use Rattle.numbers.specs.Sums.{sumTo, Within}
 
 pub sum-ext : (n : ℕ) (f g : ℕ → ℤ) → ((i : ℕ) → i < n → f i ≡ g i) → sumTo n f ≡ sumTo n g
 unfolding sumTo
@@ -140,3 +140,13 @@ sum-start f = refl
 pub sum-more : (i : ℕ) (f : ℕ → ℤ) → sumTo (i + 1) f ≡ sumTo i f +ℤ f i
 unfolding sumTo
 sum-more i f = rw add-one refl
+
+-- terms of a known size
+pub sum-within : (n size : ℕ) (f : ℕ → ℤ) → ((i : ℕ) → Within size (f i)) → Within (n * size) (sumTo n f)
+unfolding sumTo
+sum-within zero size f h = (omega (arith, ints), omega (arith, ints))
+sum-within (suc n) size f h =
+    let e = sum-within n size f h in
+    let l = h n in
+    let m : suc n * size ≡ n * size + size = omega arith in
+    (omega (arith, ints), omega (arith, ints))
