@@ -9,6 +9,8 @@ pub mod Walks
 pub mod Descent
 pub mod Paths
 pub mod Spelling
+pub mod Bytes
 pub mod Sound
 pub mod Bounding
+pub mod Accepting
 pub mod Whole

@@ -10,6 +10,7 @@ ghost use Rattle.bound.specs.Layers.{fixed, holding};
 ghost use Rattle.bound.specs.Paths.{heldOf, countOf, belowOf, Free, SamePath};
 ghost use Rattle.bound.specs.Steps.{treeKinds};
 ghost use Rattle.bound.specs.Checks.{allowed, nodeAt, checked, Gives, SameFile};
+ghost use Rattle.bound.specs.Trees.{Proves, Accepts};
 ghost use Rattle.bound.specs.Piles.{Every-pile-is-bounded};
 use crate::faults::Fault;
 use crate::faults::Refusal;
@@ -131,7 +132,9 @@ fn walk<P: Programme>(pile: &P, file: &[u8]) -> Result<i64, Refusal>
 // `accepts`: every tree that fits the table, and whose bound can be summed, is accepted.
 pub fn check<P: Programme>(pile: &P, file: &[u8]) -> Result<i64, Refusal>
     ensures exact { λ r. ⌜ r ≡ checked (table (now (pile .entry))) (now (file .entry)) ⌝ }
+    ensures proves { λ r. ⌜ made r (λ b. Proves (table (now (pile .entry))) (now (file .entry)) b) ⌝ }
     ensures sound { λ r. ⌜ made r (λ b. Bounds (table (now (pile .entry))) b) ⌝ }
+    ensures accepts { λ r. ⌜ Accepts (table (now (pile .entry))) (now (file .entry)) r ⌝ }
 {
     walk(pile, file)
 }

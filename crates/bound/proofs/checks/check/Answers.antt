@@ -1,5 +1,8 @@
 use borrow.Author.Needs.{needs}
-use Rattle.bound.proofs.Whole.{all-sound}
+use Rattle.std.specs.shelf.Lists.{All}
+use Rattle.std.proofs.shelf.Elements.{all-from-getD}
+use Rattle.records.specs.Write.{Byte}
+use Rattle.bound.proofs.Whole.{all-proves, all-sound, all-accepts}
 use Rattle.bound.proofs.checks.check.Needs as need
 
 pub returns : need.returns
@@ -8,5 +11,6 @@ returns g c =
     let t = g .P·Programme .table pile in
     let lawful = g .P·Programme .lawful pile in
     let file = c .args .file .now in
+    let bytes : All Byte file = all-from-getD Byte file 0 (λ k h. search needs) in
     let exact = c .walk .ensures in
-    record { exact = exact; sound = all-sound t lawful file _ exact }
+    record { exact = exact; proves = all-proves t lawful file _ bytes exact; sound = all-sound t lawful file _ exact; accepts = all-accepts t lawful file _ exact }
