@@ -2,3 +2,9 @@ pub mod Pushing
 pub mod Deciding
 pub mod Books
 pub mod Zeros
+pub mod Fields
+pub mod Fitting
+pub mod Faulting
+pub mod Spelling
+pub mod Running
+pub mod Returning

@@ -1,6 +1,10 @@
 pub mod Services
 pub mod Market
+pub mod Faults
 pub mod Tests
 pub mod Lines
 pub mod View
 pub mod Lawful
+pub mod Reading
+pub mod Wrong
+pub mod Files

@@ -9,6 +9,7 @@ use crate::entries::Buy;
 use crate::entries::Extra;
 use crate::entries::Window;
 
+mod enters;
 mod opens;
 mod puts;
 

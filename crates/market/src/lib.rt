@@ -4,6 +4,7 @@ mod checks;
 mod closed;
 mod entries;
 mod faults;
+mod reading;
 mod services;
 
 pub use book::Book;
@@ -16,3 +17,5 @@ pub use entries::Role;
 pub use entries::Service;
 pub use entries::Window;
 pub use faults::Fault;
+pub use faults::Refusal;
+pub use faults::RefusalFromRecords;

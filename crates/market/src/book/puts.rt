@@ -21,7 +21,7 @@ use crate::faults::Fault;
 
 impl Book {
     // What is wrong with one more entry.
-    fn fault(&self, entry: Entry) -> Option<Fault>
+    pub(super) fn fault(&self, entry: Entry) -> Option<Fault>
         ensures { λ r. ⌜ r ≡ fault (marketOf (now (self .entry))) entry ⌝ }
     {
         if self.absent(entry) {
@@ -109,7 +109,7 @@ impl Book {
         self.extras.push_reserved(extra);
     }
 
-    fn put(&mut self, entry: Entry)
+    pub(super) fn put(&mut self, entry: Entry)
         requires { ⌜ entryOk entry ≡ true ⌝ ∗ ⌜ fault (marketOf (now self)) entry ≡ None ⌝ }
         ensures { λ _. ⌜ marketOf (now (self .exit)) ≡ put (marketOf (now (self .entry))) entry ⌝ }
     {

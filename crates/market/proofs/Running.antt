@@ -1,0 +1,42 @@
+-- One more entry of a file.
+use mathlib.Core.Path.{_≡_, refl, sym, ap, subst, _∙_}
+use mathlib.Core.Bool.{true, false}
+use mathlib.Core.List.{List, [], _∷_, _++_}
+use Prim.Native.Nat.{ℕ, _+_, _-_, _≤_}
+use lib.ListN.{length, take, drop}
+use lib.Seq.{take-add}
+use Rattle.std.proofs.shelf.Lists.{append-nil, append-assoc}
+use Rattle.std.specs.declared.result.Result.the-variants.{Ok}
+use Rattle.std.specs.shelf.Lists.{All}
+use Rattle.records.specs.Read.{Content, read}
+use Rattle.records.specs.Write.{Byte, encode}
+use Rattle.records.proofs.Rewriting.{begins}
+use Rattle.records.proofs.Spelling.{read-own}
+use Rattle.records.proofs.Tails.{encode-more}
+use Rattle.market.specs.declared.entries.Entry.{Entry}
+use Rattle.market.specs.Files.{kinds, kindIn, spelt, bytesOf, Grows}
+use Rattle.market.specs.Lawful.{Lawful}
+use Rattle.market.specs.Market.{Market, put}
+use Rattle.market.specs.Reading.{entryIn, limits}
+use Rattle.market.specs.Tests.{absent}
+use Rattle.market.proofs.Spelling.{as-written}
+
+pub bytesOf-more : (es : List Entry) (e : Entry) → bytesOf (es ++ e ∷ []) ≡ bytesOf es ++ encode (kindIn e) (spelt e)
+bytesOf-more [] e = append-nil (encode (kindIn e) (spelt e))
+bytesOf-more (d ∷ es) e =
+    ap (λ l. encode (kindIn d) (spelt d) ++ l) (bytesOf-more es e)
+    ∙ sym (append-assoc (encode (kindIn d) (spelt d)) (bytesOf es) (encode (kindIn e) (spelt e)))
+
+pub grows-more : (m : Market) (es : List Entry) (n : Market) (e : Entry) → Grows m es n → Lawful (put n e) → Grows m (es ++ e ∷ []) (put n e)
+grows-more m [] n e h ok = (subst (λ (k : Market). Lawful (put k e)) h ok, ap (λ k. put k e) h)
+grows-more m (d ∷ es) n e h ok = (h .0, grows-more (put m d) es n e (h .1) ok)
+
+pub bytes-more : (file : List ℕ) (p size : ℕ) (es : List Entry) (e : Entry) → take p file ≡ bytesOf es → take size (drop p file) ≡ encode (kindIn e) (spelt e) → take (p + size) file ≡ bytesOf (es ++ e ∷ [])
+bytes-more file p size es e before here = take-add p size file ∙ (λ i. before i ++ here i) ∙ sym (bytesOf-more es e)
+
+-- the bytes of a record that a book takes, at the place p of a file
+pub bytes-here : (m : Market) → length (m .windows) ≤ 255 → length (m .baskets) ≤ 255 → (bs : List ℕ) (c : Content) → All Byte bs → read kinds bs ≡ Ok c → limits c ≡ true → absent m (entryIn c) ≡ false → take (c .size) bs ≡ encode (kindIn (entryIn c)) (spelt (entryIn c))
+bytes-here m fw fb bs c all is h a =
+    let own = read-own kinds bs c is in
+    begins kinds bs c all is ∙ ap (encode (c .kind)) (own .parts) ∙ encode-more (c .kind) (take (own .count) (c .fields)) (16 - own .count)
+    ∙ as-written m fw fb c (own .count) (own .counted) (own .long) h a
