@@ -1,0 +1,15 @@
+pub mod Entries
+pub mod Spread
+pub mod RowSums
+pub mod Places
+pub mod Worth
+pub mod Points
+pub mod Clearings
+pub mod Linear
+pub mod PriceRows
+pub mod PriceLists
+pub mod Costs
+pub mod Gaps
+pub mod Sizes
+pub mod AcceptanceLawful
+pub mod PricingLawful

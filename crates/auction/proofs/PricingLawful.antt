@@ -1,0 +1,78 @@
+-- The price table is lawful, for parts of at most 10,000.
+use mathlib.Core.Path.{_≡_, refl, sym, ap, _∙_}
+use mathlib.Core.Bool.{Bool, true, false, cond, not, _&&_}
+use Prim.Native.Nat.{ℕ, _+_, _-_, _/_, _%_, _<_, _≤_}
+use native.Mathlib.Omega.{arith}
+use lib.Dec.{eqb, ltb}
+use lib.ListN.{length}
+use lib.IntN.{ℤ, pos, negℤ}
+use lib.Signed.{ltZ, _≤ℤ_}
+use Rattle.std.proofs.shelf.Signed.{ints}
+use Rattle.std.proofs.shelf.Tests.{cond-both, cond-false, le-ltb, and-left}
+use Rattle.numbers.specs.Sums.{Within}
+use Rattle.bound.specs.Tables.{Small}
+use Rattle.bound.specs.Tables as tables
+use Rattle.market.specs.Services.{terms}
+use Rattle.market.specs.declared.entries.Service.{Service}
+use Rattle.market.specs.Market.{Market, windowAt, buyAt, basketAt}
+use Rattle.market.specs.Lawful.{Lawful}
+use Rattle.auction.specs.declared.rows.Measure.the-variants.{On, Value}
+use Rattle.auction.specs.declared.rows.PriceRow.{PriceRow}
+use Rattle.auction.specs.declared.rows.PriceRow.the-variants.{Extra, Basket, Loop, Buy, Zero}
+use Rattle.auction.specs.Orders.{buyLine}
+use Rattle.auction.specs.Pricing.{pricing, priced, onLines, priceNumbers, priceSide, priceRow, buyRow, marketSum}
+use Rattle.auction.proofs.Sizes.{small, wider, within-pos, within-neg, within-zero, within-if, floor-within, buy-price, extra-measure-within, basket-sum-within, loop-sum-within, market-sum-within}
+
+past-lines : (f : ℕ → ℤ) (l : ℕ) → 192 ≤ l → onLines f l ≡ pos 0
+past-lines f l h = cond-false (ltb l 192) (f l) (pos 0) (le-ltb l 192 h)
+
+in-order : (t : Bool) (s : Service) → cond t (terms s .floor) (pos 0) ≤ℤ cond t (pos 99999) (pos 0)
+in-order true s = floor-within s .1
+in-order false s = omega (arith, ints)
+
+module _ (m : Market) (good : Lawful m) (X : ℕ → ℤ) (parts : (v : ℕ) → Within 10000 (X v)) where
+  row-within : (r : PriceRow) (l : ℕ) → Within 93109756893120000 (priceNumbers m X r l)
+  row-within (Extra k) l = within-neg 93109756893120000 _ (wider 999890001 93109756893120000 _ (omega arith) (extra-measure-within m good (On l) k))
+  row-within (Basket b) l = within-neg 93109756893120000 _ (wider 969893300970000 93109756893120000 _ (omega arith) (basket-sum-within m good X parts (On l) b))
+  row-within (Loop b) l = within-neg 93109756893120000 _ (loop-sum-within m good X parts (On l) (basketAt m b .ring))
+  row-within (Buy i) l = within-if 93109756893120000 (eqb l (buyLine m i)) (pos 1) (within-pos 93109756893120000 1 (omega arith))
+  row-within Zero l = within-zero 93109756893120000
+
+  side-within : (r : PriceRow) → Within 93109756893120000 (priceSide m X r)
+  side-within (Extra k) = within-neg 93109756893120000 _ (wider 999890001 93109756893120000 _ (omega arith) (extra-measure-within m good Value k))
+  side-within (Basket b) = within-neg 93109756893120000 _ (wider 969893300970000 93109756893120000 _ (omega arith) (basket-sum-within m good X parts Value b))
+  side-within (Loop b) = within-neg 93109756893120000 _ (loop-sum-within m good X parts Value (basketAt m b .ring))
+  side-within (Buy i) = wider 99999 93109756893120000 _ (omega arith) (buy-price m good i)
+  side-within Zero = within-zero 93109756893120000
+
+  past-rows : (r : ℕ) → 256 ≤ r → priceRow m X r ≡ Zero
+  past-rows r h =
+      cond-false (ltb r 96) _ _ (le-ltb r 96 (omega arith)) ∙ cond-false (ltb r 192) _ _ (le-ltb r 192 (omega arith))
+      ∙ cond-false _ (Buy (r - 192)) Zero (and-left (ltb (r - 192) (length (m .buys))) _ (le-ltb (r - 192) (length (m .buys)) (omega (arith, good .few-buys))))
+
+  -- beyond the last line there is no window
+  unpriced : (l : ℕ) → 192 ≤ l → priced m l ≡ false
+  unpriced l h = and-left (ltb (l / 6) (length (m .windows))) _ (le-ltb (l / 6) (length (m .windows)) (omega (arith, good .few-windows)))
+
+  pub pricing-lawful : tables.Lawful (pricing m X)
+  pricing-lawful =
+      record {
+        scale-least = omega (arith, ints);
+        scale-most = omega (arith, ints);
+        some-variable = omega arith;
+        few-variables = omega arith;
+        few-rows = omega arith;
+        ordered = λ l. in-order (priced m l) (windowAt m (l / 6) .service);
+        small-low = λ l. small 99999 _ (omega arith) (within-if 99999 (priced m l) _ (floor-within (windowAt m (l / 6) .service)));
+        small-high = λ l. small 99999 _ (omega arith) (within-if 99999 (priced m l) _ (within-pos 99999 99999 (omega arith)));
+        small-objective = λ l. small 1919788801920000 _ (omega arith) (within-if 1919788801920000 (ltb l 192) _ (within-neg 1919788801920000 _ (market-sum-within m good X parts (On l))));
+        small-coefficient = λ r l. small 93109756893120000 _ (omega arith) (within-if 93109756893120000 (ltb l 192) _ (row-within (priceRow m X r) l));
+        small-side = λ r. small 93109756893120000 _ (omega arith) (side-within (priceRow m X r));
+        past-low = λ l h. cond-false (priced m l) _ (pos 0) (unpriced l h);
+        past-high = λ l h. cond-false (priced m l) _ (pos 0) (unpriced l h);
+        past-whole = λ l h. refl;
+        past-objective = past-lines (λ l. negℤ (marketSum m X (On l)));
+        past-variable = λ r. past-lines (priceNumbers m X (priceRow m X r));
+        past-row = λ r l h. ap (λ (k : PriceRow). onLines (priceNumbers m X k) l) (past-rows r h) ∙ cond-both (ltb l 192) _ _ (λ (z : ℤ). z ≡ pos 0) (λ t. refl) (λ t. refl);
+        past-side = λ r h. ap (priceSide m X) (past-rows r h);
+      }

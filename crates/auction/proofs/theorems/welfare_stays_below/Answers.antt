@@ -1,0 +1,6 @@
+use borrow.Author.Needs.{needs}
+use Rattle.auction.proofs.theorems.welfare_stays_below.Needs as need
+use Rattle.auction.proofs.Gaps.{welfare-below}
+
+pub returns : need.returns
+returns c = welfare-below

@@ -1,0 +1,4 @@
+pub mod Orders
+pub mod Acceptance
+pub mod Pricing
+pub mod Theorems
