@@ -85,7 +85,7 @@ dec-limits aBasket zs = dec-basket zs
 dec-limits aChild zs = dec-extra zs
 dec-limits aSubstitute zs = dec-extra zs
 
-same-pos : (a b : ℕ) → pos a ≡ pos b → a ≡ b
+pub same-pos : (a b : ℕ) → pos a ≡ pos b → a ≡ b
 same-pos a b e = grind arith
 
 pub names-byte : (z : ℤ) (n : ℕ) → n ≤ 255 → byteOf z < n → z ≡ pos (byteOf z)

@@ -8,3 +8,5 @@ pub mod Faulting
 pub mod Spelling
 pub mod Running
 pub mod Returning
+pub mod Admitting
+pub mod Outcomes

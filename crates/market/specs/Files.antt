@@ -84,3 +84,45 @@ pub record Entered (m : Market) (file : List ℕ) (r : Result (Unit {0}) Refusal
 -- A longer file is refused unread.
 abbrev pub tooLong : Result (Unit {0}) Refusal
 tooLong = Err (record { fault = Record TooLong; place = 0 })
+
+-- What entering a file does to m.
+abbrev pub Enters : Market → List ℕ → Result (Unit {0}) Refusal → Market → Type 0
+Enters m file r after = (65535 < length file → (r ≡ tooLong) × (after ≡ m)) × (length file ≤ 65535 → Entered m file r after)
+
+-- A file that is the bytes of entries, each of which keeps the lines after those before it, is accepted, and these are what
+-- it enters.
+abbrev pub Accepts : Market → List ℕ → Result (Unit {0}) Refusal → Market → Type 0
+Accepts m file r after = (es : List Entry) (n : Market) → length file ≤ 65535 → file ≡ bytesOf es → Grows m es n → (r ≡ Ok tt) × (after ≡ n)
+
+-- Entering a file has one outcome.
+abbrev pub One-outcome : Type 0
+One-outcome = (m : Market) (file : List ℕ) (r s : Result (Unit {0}) Refusal) (a b : Market) → Enters m file r a → Enters m file s b → (r ≡ s) × (a ≡ b)
+
+-- A file that was entered, and the answer to it.
+pub record Visit : Type 0 where
+  pub file : List ℕ
+  pub answer : Result (Unit {0}) Refusal
+
+-- Files are entered one after the other, with these answers, and make m into n.
+abbrev pub AfterFiles : Market → List Visit → Market → Type 0
+AfterFiles m [] n = n ≡ m
+AfterFiles m (v ∷ vs) n = (k : Market) × Enters m (v .file) (v .answer) k × AfterFiles k vs n
+
+-- The entries that are kept of a file: all, or those before the place at which it is refused.
+abbrev pub Kept : List ℕ → Result (Unit {0}) Refusal → List Entry → Type 0
+Kept file (Ok x) es = file ≡ bytesOf es
+Kept file (Err x) es = take (x .place) file ≡ bytesOf es
+
+abbrev pub KeptOfEach : List Visit → List (List Entry) → Type 0
+KeptOfEach [] [] = Unit {0}
+KeptOfEach [] (es ∷ rest) = ⊥
+KeptOfEach (v ∷ vs) [] = ⊥
+KeptOfEach (v ∷ vs) (es ∷ rest) = Kept (v .file) (v .answer) es × KeptOfEach vs rest
+
+abbrev pub inOrder : List (List Entry) → List Entry
+inOrder [] = []
+inOrder (es ∷ rest) = es ++ inOrder rest
+
+-- The market after some files is the market of the entries that are kept of them, in order.
+abbrev pub Files-in-order : Type 0
+Files-in-order = (m : Market) (vs : List Visit) (n : Market) → AfterFiles m vs n → (kept : List (List Entry)) × KeptOfEach vs kept × Grows m (inOrder kept) n

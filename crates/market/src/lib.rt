@@ -4,6 +4,7 @@ mod checks;
 mod closed;
 mod entries;
 mod faults;
+mod laws;
 mod reading;
 mod services;
 
@@ -19,3 +20,5 @@ pub use entries::Window;
 pub use faults::Fault;
 pub use faults::Refusal;
 pub use faults::RefusalFromRecords;
+pub use laws::files_in_order;
+pub use laws::one_outcome;

@@ -3,7 +3,8 @@ ghost use mathlib.Core.Path.{_≡_};
 ghost use Prim.Native.Nat.{_<_, _≤_};
 ghost use lib.ListN.{length};
 ghost use Rattle.records.specs.Read.{content};
-ghost use Rattle.market.specs.Files.{Took, Entered, tooLong};
+ghost use Rattle.market.specs.Files.{Took, Entered, tooLong, Enters, Accepts};
+ghost use Rattle.market.specs.Lawful.{Lawful};
 ghost use Rattle.market.specs.View.{marketOf};
 use super::Book;
 use crate::faults::Fault;
@@ -52,7 +53,7 @@ impl Book {
     }
 
     // Takes the entries of a file, up to the first record that is refused.
-    pub fn enter(&mut self, file: &[u8]) -> Result<(), Refusal>
+    fn enter_records(&mut self, file: &[u8]) -> Result<(), Refusal>
         ensures long { λ r. ⌜ (65535 < length (now (file .entry)) → (r ≡ tooLong) × (marketOf (now (self .exit)) ≡ marketOf (now (self .entry)))) ⌝ }
         ensures reads { λ r. ⌜ (length (now (file .entry)) ≤ 65535 → Entered (marketOf (now (self .entry))) (now (file .entry)) r (marketOf (now (self .exit)))) ⌝ }
     {
@@ -66,5 +67,14 @@ impl Book {
             }
         }
         Ok(())
+    }
+
+    // Enters a market file. The entries before a refused record are kept; a file that is too long is not read.
+    pub fn enter(&mut self, file: &[u8]) -> Result<(), Refusal>
+        ensures enters { λ r. ⌜ Enters (marketOf (now (self .entry))) (now (file .entry)) r (marketOf (now (self .exit))) ⌝ }
+        ensures accepts { λ r. ⌜ Accepts (marketOf (now (self .entry))) (now (file .entry)) r (marketOf (now (self .exit))) ⌝ }
+        ensures lawful { λ _. ⌜ Lawful (marketOf (now (self .exit))) ⌝ }
+    {
+        self.enter_records(file)
     }
 }

@@ -6,7 +6,7 @@ use Rattle.records.specs.Readers.{fileOf, kindsOf, placeOf}
 use Rattle.market.specs.declared.entries.Entry.{Entry}
 use Rattle.market.specs.Files.{kinds, bytesOf, Grows}
 use Rattle.market.specs.View.{marketOf}
-use Rattle.market.proofs.book.Book.enter.Given as given
+use Rattle.market.proofs.book.Book.enter_records.Given as given
 
 -- the entries so far
 abbrev pub Inv-loop-given : given.InvT-loop-given
