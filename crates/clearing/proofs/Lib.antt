@@ -1,0 +1,5 @@
+pub mod Marking
+pub mod Spelling
+pub mod Numbers
+pub mod Lists
+pub mod Single
