@@ -1,9 +1,10 @@
 -- What the tables use of the lines on entries.
 use mathlib.Core.Path.{_≡_, refl}
 use mathlib.Core.Bool.{true, false}
+use mathlib.Core.List.{List}
 use Prim.Native.Nat.{ℕ, _+_, _<_, _≤_}
 use native.Mathlib.Omega.{arith}
-use lib.ListN.{length}
+use lib.ListN.{length, getD}
 use Rattle.market.specs.declared.entries.Service.{Service}
 use Rattle.market.specs.declared.entries.Service.the-variants.{Response, Balancing, Quick, Slow}
 use Rattle.market.specs.declared.entries.Role.{Role}
@@ -12,6 +13,7 @@ use Rattle.market.specs.Services.{terms}
 use Rattle.market.specs.Market.{Market, windowAt, buyAt, basketAt, extraAt, isChild}
 use Rattle.market.specs.Lawful.{Lawful}
 use Rattle.rules.specs.Clearings.{extraWindow}
+use Rattle.auction.specs.Orders.{total}
 use Rattle.auction.specs.Acceptance.{startOf, endOf}
 
 pub child-is : (r : Role) → isChild r ≡ true → r ≡ Child
@@ -21,6 +23,10 @@ child-is Substitute e = absurd (let z : _≡_ {A = ℕ} 0 1 = cc in omega arith)
 pub is-child : (r : Role) → r ≡ Child → isChild r ≡ true
 is-child Child e = refl
 is-child Substitute e = absurd (let z : _≡_ {A = ℕ} 0 1 = cc in omega arith)
+
+-- the same quantities have the same total
+pub same-total : (qs rs : List ℕ) → ((p : ℕ) → getD qs p 0 ≡ getD rs p 0) → total qs ≡ total rs
+same-total qs rs h = omega (arith, h 0, h 1, h 2, h 3, h 4, h 5)
 
 six-products : (s : Service) → terms s .products ≤ 6
 six-products Response = omega arith

@@ -10,6 +10,3 @@ pub mod PriceRows
 pub mod PriceLists
 pub mod Costs
 pub mod Gaps
-pub mod Sizes
-pub mod AcceptanceLawful
-pub mod PricingLawful

@@ -29,12 +29,6 @@ extra-spread p k l =
     ∙ cond-true (ltb (160 + k) 256) _ _ (lt-ltb (160 + k) 256 (omega arith))
     ∙ ap (p .extras) e
 
-pub past-spread : (p : Numbers) (v : ℕ) → 256 ≤ v → spread p v ≡ pos 0
-past-spread p v l =
-    cond-false (ltb v 64) _ _ (le-ltb v 64 (omega arith))
-    ∙ cond-false (ltb v 160) _ _ (le-ltb v 160 (omega arith))
-    ∙ cond-false (ltb v 256) _ _ (le-ltb v 256 l)
-
 -- the three sums
 unfoldable pub over : Numbers → (ℕ → ℤ) → ℤ
 over p X = sumTo 64 (λ i. p .buys i *ℤ X i) +ℤ (sumTo 96 (λ b. p .baskets b *ℤ X (64 + b)) +ℤ sumTo 96 (λ k. p .extras k *ℤ X (160 + k)))

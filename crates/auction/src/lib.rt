@@ -1,12 +1,14 @@
 // The two programmes of an auction and what their points are: the acceptance programme of a closed market, whose points
 // are the clearings that keep the rules on orders, and the price programme of a closed market and a held clearing, whose
 // points are the price lists that keep the price rules.
+mod acceptance;
+mod forms;
+mod orders;
 mod rows;
 mod theorems;
 
-pub use rows::Measure;
-pub use rows::PriceRow;
-pub use rows::Row;
+pub use acceptance::AcceptanceProgramme;
+pub use acceptance::AcceptanceTable;
 pub use theorems::costs_stay_above;
 pub use theorems::points_are_clearings;
 pub use theorems::points_are_price_lists;

@@ -2,7 +2,7 @@
 
 // A row of the acceptance programme.
 #[derive(Clone, Copy)]
-pub enum Row {
+pub(crate) enum Row {
     // on a line, what is bought is at most what is sold
     Line(usize),
     // a child has no more parts than its basket's parent
@@ -23,7 +23,7 @@ pub enum Row {
 
 // A row of the price programme.
 #[derive(Clone, Copy)]
-pub enum PriceRow {
+pub(crate) enum PriceRow {
     // a child or substitute does not lose
     Extra(usize),
     // nor does a basket without a loop, over all its orders
@@ -38,7 +38,7 @@ pub enum PriceRow {
 
 // What is measured of a sell order.
 #[derive(Clone, Copy)]
-pub enum Measure {
+pub(crate) enum Measure {
     // the quantity that it offers on a line
     On(usize),
     // its price times its total quantity

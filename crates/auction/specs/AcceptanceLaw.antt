@@ -19,11 +19,16 @@ use Rattle.auction.specs.declared.rows.Row.{Row}
 use Rattle.auction.specs.declared.rows.Row.the-variants.{Line, Child, Substitutes, Family, AtMostFirst, AtLeastFirst, Unit, Zero}
 use Rattle.auction.specs.Orders.{buyOn}
 use Rattle.auction.specs.Acceptance.{Numbers, spread, only, oneIf, first, stands, coefficients, sideOf, rowAt, unitRow, entered, values, acceptance}
-use Rattle.auction.proofs.Spread.{past-spread}
-use Rattle.auction.proofs.Sizes.{small, wider, within-pos, within-neg, within-zero, within-if, within-add, buy-on-within, buy-value-within, parent-measure-within, extra-measure-within}
+use Rattle.auction.specs.Sizes.{small, wider, within-pos, within-neg, within-zero, within-if, within-add, buy-on-within, buy-value-within, parent-measure-within, extra-measure-within}
+
+past-spread : (p : Numbers) (v : ℕ) → 256 ≤ v → spread p v ≡ pos 0
+past-spread p v l =
+    cond-false (ltb v 64) _ _ (le-ltb v 64 (omega arith))
+    ∙ cond-false (ltb v 160) _ _ (le-ltb v 160 (omega arith))
+    ∙ cond-false (ltb v 256) _ _ (le-ltb v 256 l)
 
 -- what holds of 0 and of each number holds at every variable
-pub spread-all : (P : ℤ → Type 0) (n : Numbers) → P (pos 0) → ((i : ℕ) → P (n .buys i)) → ((b : ℕ) → P (n .baskets b)) → ((k : ℕ) → P (n .extras k)) → (v : ℕ) → P (spread n v)
+spread-all : (P : ℤ → Type 0) (n : Numbers) → P (pos 0) → ((i : ℕ) → P (n .buys i)) → ((b : ℕ) → P (n .baskets b)) → ((k : ℕ) → P (n .extras k)) → (v : ℕ) → P (spread n v)
 spread-all P n z a b c v =
     cond-both (ltb v 64) _ _ P (λ t. a v) (λ t.
     cond-both (ltb v 160) _ _ P (λ u. b (v - 64)) (λ u.

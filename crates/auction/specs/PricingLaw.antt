@@ -21,7 +21,7 @@ use Rattle.auction.specs.declared.rows.PriceRow.{PriceRow}
 use Rattle.auction.specs.declared.rows.PriceRow.the-variants.{Extra, Basket, Loop, Buy, Zero}
 use Rattle.auction.specs.Orders.{buyLine}
 use Rattle.auction.specs.Pricing.{pricing, priced, onLines, priceNumbers, priceSide, priceRow, buyRow, marketSum}
-use Rattle.auction.proofs.Sizes.{small, wider, within-pos, within-neg, within-zero, within-if, floor-within, buy-price, extra-measure-within, basket-sum-within, loop-sum-within, market-sum-within}
+use Rattle.auction.specs.Sizes.{small, wider, within-pos, within-neg, within-zero, within-if, floor-within, buy-price, extra-measure-within, basket-sum-within, loop-sum-within, market-sum-within}
 
 past-lines : (f : ℕ → ℤ) (l : ℕ) → 192 ≤ l → onLines f l ≡ pos 0
 past-lines f l h = cond-false (ltb l 192) (f l) (pos 0) (le-ltb l 192 h)
