@@ -37,7 +37,7 @@ stepped-is p q s (Err f) h = absurd (never _ (s, q) h)
 
 step-read : (file : List ℕ) (p q : ℕ) (s : Step) → stepAt file p ≡ Ok (s, q) → (e : Content) × (read treeKinds (drop p file) ≡ Ok e) × (stepOf e ≡ s) × (p + e .size ≡ q)
 unfolding stepAt
-step-read file p q s h = stepped-is p q s (read treeKinds (drop p file)) (not-refused (leb (length file) p) NotOneTree p _ (s, q) h .1)
+step-read file p q s h = stepped-is p q s (read treeKinds (drop p file)) (not-refused (leb (length file) p) NotOneTree (length file) _ (s, q) h .1)
 
 split-at : (a b : Bool) (x y w z : ℤ) → cond a (Split x) (cond b (Row y w) Close) ≡ Split z → (a ≡ true) × (x ≡ z)
 split-at true b x y w z e = (refl, cc)

@@ -3,6 +3,7 @@ use mathlib.Core.Path.{_≡_, refl}
 use mathlib.Core.Bool.{Bool, true, false, cond}
 use Prim.Native.Nat.{ℕ}
 use native.Mathlib.Omega.{arith}
+use Rattle.std.specs.Vec.{made}
 use Rattle.std.specs.declared.result.Result.{Result}
 use Rattle.std.specs.declared.result.Result.the-variants.{Ok, Err}
 use Rattle.bound.specs.declared.faults.Fault.{Fault}
@@ -14,6 +15,11 @@ never e x h = let z : _≡_ {A = ℕ} 0 1 = cc in omega arith
 
 pub inside : {A : Type 0} (x y : A) → _≡_ {A = Result A Refusal} (Ok x) (Ok y) → x ≡ y
 inside x y h = cc
+
+-- what holds in any case holds where something was made
+pub made-always : {A : Type 0} {P : Type 0} (r : Result A Refusal) → P → made r (λ _. P)
+made-always (Ok x) p = p
+made-always (Err e) p = tt
 
 -- where both parts were accepted
 pub then-ok : {A B : Type 0} (r : Result A Refusal) (f : A → Result B Refusal) (y : B) → and-then r f ≡ Ok y → (x : A) × (r ≡ Ok x) × (f x ≡ Ok y)

@@ -1,4 +1,4 @@
--- One variable more on the path: what a fixing means after a free variable was held, and after it is released.
+-- What a fixing means along the path: at the root, after a free variable was held, and after it is released.
 use mathlib.Core.Path.{_≡_, sym, ap, _∙_}
 use mathlib.Core.List.{List, [], _∷_, _++_}
 use Prim.Native.Nat.{ℕ, _+_, _-_, _≤_, _<_}
@@ -8,13 +8,16 @@ use lib.ListN.{length, take, length-append}
 use lib.Seq.{length-take-le}
 use Rattle.std.proofs.shelf.Lists.{take-at}
 use Rattle.std.specs.declared.result.Result.{Result}
+use Rattle.records.specs.Readers.{fileOf, placeOf}
+use Rattle.records.specs.declared.Reader.{Reader}
 use Rattle.bound.specs.declared.faults.Refusal.{Refusal}
 use Rattle.bound.specs.declared.fixing.Fixing.{Fixing}
 use Rattle.bound.specs.declared.fixing.Held.{Held}
 use Rattle.bound.specs.Tables.{Table, Small}
 use Rattle.bound.specs.Layers.{fixed, holding, place, holdAnswer, holdAfter, withoutLast}
 use Rattle.bound.specs.Paths.{heldOf, countOf, belowOf, SamePath}
-use Rattle.bound.proofs.Descent.{held-on, fixed-more}
+use Rattle.bound.specs.Checks.{nodeAt}
+use Rattle.bound.proofs.Descent.{held-on, fixed-more, fixed-none}
 
 module _ {P : Type 0} (table : P → Table) where
   pub held-count : (f : Fixing P) → length (heldOf f) ≡ countOf f
@@ -55,3 +58,11 @@ module _ {P : Type 0} (table : P → Table) where
       let held : heldOf k ≡ heldOf f =
       released ∙ (λ i. take (size i) ((kept .0 ∙ down .held) i)) ∙ take-at (heldOf f) (h ∷ []) (length (heldOf f)) (λ i. length (heldOf f)) in
       (held, sym (held-count k) ∙ ap length held ∙ held-count f, below ∙ kept .2 ∙ down .below)
+
+  -- nothing is held at the root, so that the root is read over the pile itself
+  pub started : (t : Table) (file : List ℕ) (below : P) (f : Fixing P) (reader : Reader) → table below ≡ t → belowOf f ≡ below → heldOf f ≡ [] → fileOf reader ≡ file → placeOf reader ≡ 0
+      → nodeAt 64 t file 0 ≡ nodeAt (64 - countOf f) (fixed (table (belowOf f)) (heldOf f)) (fileOf reader) (placeOf reader)
+  started t file below f reader means over none reads first =
+      let depth : 64 ≡ 64 - countOf f = omega (arith, held-count f, ap length none) in
+      let here : t ≡ fixed (table (belowOf f)) (heldOf f) = sym means ∙ sym (fixed-none (table below)) ∙ (λ i. fixed (table (sym over i)) (sym none i)) in
+      λ i. nodeAt (depth i) (here i) (sym reads i) (sym first i)

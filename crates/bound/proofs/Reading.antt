@@ -37,7 +37,7 @@ pub step-close : (e : Content) → (e .kind ≡ 8 → ⊥) → (e .kind ≡ 9 �
 step-close e a b = cond-false _ _ _ (ne-eqb 8 (e .kind) (λ z. a (sym z))) ∙ cond-false _ _ _ (ne-eqb 9 (e .kind) (λ z. b (sym z)))
 
 module _ (file : List ℕ) (p : ℕ) where
-  pub step-end : length file ≤ p → stepAt file p ≡ refuse NotOneTree p
+  pub step-end : length file ≤ p → stepAt file p ≡ refuse NotOneTree (length file)
   unfolding stepAt
   step-end h = cond-true _ _ _ (le-leb (length file) p h)
 

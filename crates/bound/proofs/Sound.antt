@@ -8,7 +8,7 @@ use native.Mathlib.Omega.{arith}
 use lib.Dec.{ltb, leb}
 use lib.IntN.{ℤ, pos, negsuc}
 use lib.ListN.{length, length-append}
-use Rattle.std.proofs.shelf.Tests.{ltb-true, ltb-false, lt-ltb, le-ltb, leb-true, le-leb, lt-leb, cond-true, cond-false}
+use Rattle.std.proofs.shelf.Tests.{ltb-true, ltb-false, lt-ltb, le-ltb, leb-true, le-leb, cond-true, cond-false}
 use Rattle.std.proofs.shelf.Sums.{folded-push}
 use Rattle.std.specs.Numbers.{maxZ}
 use Rattle.std.specs.shelf.Lists.{All}
@@ -27,7 +27,7 @@ use Rattle.bound.specs.declared.leaf.Weight.{Weight}
 use Rattle.bound.specs.Tables.{Table}
 use Rattle.bound.specs.Leaves.{after, leafBound}
 use Rattle.bound.specs.Steps.{refuse, and-then, stepAt}
-use Rattle.bound.specs.Checks.{numbered, branching, opened, judged, closing, nextRow, leafStep, leafAt, foundAt, allowed, sides, nodeStep, nodeAt, checked}
+use Rattle.bound.specs.Checks.{numbered, branching, opened, judged, closing, nextRow, leafStep, leafAt, foundAt, allowed, sides, nodeStep, nodeAt, finished, checked}
 use Rattle.bound.specs.Layers.{holding}
 use Rattle.bound.specs.Trees.{Tree, leaf, split, Weighs, Rising, Sits, treeBound}
 use Rattle.bound.proofs.Spelling.{SpellsLeaf, Spells}
@@ -147,7 +147,7 @@ node-proved (suc n) t file p b h =
 -- a whole file
 module _ (t : Table) (file : List ℕ) where
   abbrev ending : ℤ × ℕ → Result ℤ Refusal
-  ending b = cond (leb (length file) (b .1)) (Ok (b .0)) (refuse NotOneTree (b .1))
+  ending b = finished file (b .0) (b .1)
 
   pub long-checked : 65535 < length file → checked t file ≡ refuse (Record TooLong) 0
   long-checked long = cond-true _ _ _ (lt-ltb 65535 (length file) long)
@@ -159,11 +159,11 @@ module _ (t : Table) (file : List ℕ) where
     pub refused-checked : (e : Refusal) → nodeAt 64 t file 0 ≡ Err e → checked t file ≡ Err e
     refused-checked e node = open-checked ∙ ap (λ r. and-then r ending) node
 
-    pub more-checked : (b : ℤ) (q : ℕ) → nodeAt 64 t file 0 ≡ Ok (b, q) → q < length file → checked t file ≡ refuse NotOneTree q
-    more-checked b q node more = open-checked ∙ ap (λ r. and-then r ending) node ∙ cond-false _ _ _ (lt-leb (length file) q more)
+    pub finished-checked : (b : ℤ) (q : ℕ) → nodeAt 64 t file 0 ≡ Ok (b, q) → checked t file ≡ finished file b q
+    finished-checked b q node = open-checked ∙ ap (λ r. and-then r ending) node
 
     pub whole-checked : (b : ℤ) (q : ℕ) → nodeAt 64 t file 0 ≡ Ok (b, q) → length file ≤ q → checked t file ≡ Ok b
-    whole-checked b q node ended = open-checked ∙ ap (λ r. and-then r ending) node ∙ cond-true _ _ _ (le-leb (length file) q ended)
+    whole-checked b q node ended = finished-checked b q node ∙ cond-true _ _ _ (le-leb (length file) q ended)
 
 -- a whole file that was accepted
 pub checked-is : (t : Table) (file : List ℕ) (b : ℤ) → checked t file ≡ Ok b → (q : ℕ) × (length file ≤ q) × (nodeAt 64 t file 0 ≡ Ok (b, q))

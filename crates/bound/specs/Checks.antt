@@ -2,7 +2,7 @@
 use mathlib.Core.Path.{_≡_}
 use mathlib.Core.Bool.{Bool, true, false, cond, _&&_}
 use mathlib.Core.List.{List, [], _∷_, _++_}
-use Prim.Native.Nat.{ℕ, zero, suc, _+_}
+use Prim.Native.Nat.{ℕ, zero, suc, _+_, _≤_}
 use lib.Dec.{eqb, ltb, leb}
 use lib.IntN.{ℤ, pos, negsuc}
 use lib.Signed.{ltZ, leZ}
@@ -15,7 +15,7 @@ use Rattle.std.specs.declared.result.Result.{Result}
 use Rattle.std.specs.declared.result.Result.the-variants.{Ok, Err}
 use Rattle.records.specs.declared.Fault.the-variants.{TooLong}
 use Rattle.records.specs.declared.Reader.{Reader}
-use Rattle.records.specs.Readers.{fileOf, kindsOf}
+use Rattle.records.specs.Readers.{fileOf, kindsOf, placeOf}
 use Rattle.bound.specs.declared.faults.Fault.the-variants.{Record, OutsideLimits, Absent, NotRising, SplitBarred, TooDeep, NotOneTree, TooLarge}
 use Rattle.bound.specs.declared.faults.Refusal.{Refusal}
 use Rattle.bound.specs.declared.leaf.Weight.{Weight}
@@ -26,7 +26,7 @@ use Rattle.bound.specs.declared.tree.Step.the-variants.{Split, Row, Close}
 use Rattle.bound.specs.Tables.{Table, most}
 use Rattle.bound.specs.Leaves.{leafBound}
 use Rattle.bound.specs.Layers.{holding}
-use Rattle.bound.specs.Steps.{refuse, and-then, stepAt}
+use Rattle.bound.specs.Steps.{treeKinds, refuse, and-then, stepAt}
 
 -- z, where it is one of the first n numbers
 abbrev pub numbered : ℕ → ℤ → Option ℕ
@@ -68,7 +68,7 @@ leafStep t p more ws Close q = and-then (closing (leafBound t ws) p) (λ f. Ok (
 
 -- what stands at p, after the weights ws; every step takes a byte or more, so n bytes are enough for n steps
 unfoldable pub leafAt : ℕ → Table → List ℕ → List Weight → ℕ → Result (Found × ℕ) Refusal
-leafAt zero t file ws p = refuse NotOneTree p
+leafAt zero t file ws p = refuse NotOneTree (length file)
 leafAt (suc n) t file ws p = and-then (stepAt file p) (λ s. leafStep t p (leafAt n t file) ws (s .0) (s .1))
 
 abbrev pub foundAt : Table → List ℕ → ℕ → Result (Found × ℕ) Refusal
@@ -97,17 +97,21 @@ nodeAt zero t file p = and-then (foundAt t file p) (λ f. nodeStep t p (λ v q. 
 nodeAt (suc n) t file p =
     and-then (foundAt t file p) (λ f. nodeStep t p (λ v. sides (nodeAt n (holding t v (pos 0)) file) (nodeAt n (holding t v (pos 1)) file)) (f .0) (f .1))
 
+-- the tree's bound, unless bytes are left at the place q after it
+abbrev pub finished : List ℕ → ℤ → ℕ → Result ℤ Refusal
+finished file b q = cond (leb (length file) q) (Ok b) (refuse NotOneTree q)
+
 -- a whole file: it is not too long, and nothing stands after the tree
 abbrev pub checked : Table → List ℕ → Result ℤ Refusal
 checked t file =
     cond (ltb 65535 (length file)) (refuse (Record TooLong) 0)
-    (and-then (nodeAt 64 t file 0) (λ b. cond (leb (length file) (b .1)) (Ok (b .0)) (refuse NotOneTree (b .1))))
+    (and-then (nodeAt 64 t file 0) (λ b. finished file (b .0) (b .1)))
 
 -- what a call returns, with the place that it leaves
 abbrev pub Gives : {A : Type 0} → Result (A × ℕ) Refusal → Result A Refusal → ℕ → Type 0
 Gives s (Ok x) q = s ≡ Ok (x, q)
 Gives s (Err e) q = s ≡ Err e
 
--- a reader still reads the same records
-abbrev pub SameFile : Reader → Reader → Type 0
-SameFile r s = (fileOf s ≡ fileOf r) × (kindsOf s ≡ kindsOf r)
+-- a reader of the records of a tree, within its file
+abbrev pub OverTree : Reader → Type 0
+OverTree r = (kindsOf r ≡ treeKinds) × (placeOf r ≤ length (fileOf r))

@@ -35,6 +35,6 @@ abbrev pub stepped : ℕ → Result Content RecordFault → Result (Step × ℕ)
 stepped p (Ok c) = Ok (stepOf c, p + c .size)
 stepped p (Err f) = refuse (Record f) p
 
--- the step at the place p and the place after it; where no byte is left, the tree is unfinished
+-- the step at the place p and the place after it; where no byte is left, the tree is unfinished, at the file's length
 unfoldable pub stepAt : List ℕ → ℕ → Result (Step × ℕ) Refusal
-stepAt file p = cond (leb (length file) p) (refuse NotOneTree p) (stepped p (read treeKinds (drop p file)))
+stepAt file p = cond (leb (length file) p) (refuse NotOneTree (length file)) (stepped p (read treeKinds (drop p file)))

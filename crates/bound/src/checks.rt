@@ -2,14 +2,13 @@
 ghost use mathlib.Core.Path.{_≡_};
 ghost use Prim.Native.Nat.{_-_};
 ghost use denote.Ref.{now};
-ghost use Rattle.records.specs.Readers.{fileOf, kindsOf, placeOf};
+ghost use Rattle.records.specs.Readers.{fileOf, placeOf};
 ghost use Rattle.std.specs.Vec.{made};
 ghost use Rattle.bound.specs.Tables.{Small};
 ghost use Rattle.bound.specs.Points.{Bounds};
 ghost use Rattle.bound.specs.Layers.{fixed, holding};
 ghost use Rattle.bound.specs.Paths.{heldOf, countOf, belowOf, Free, SamePath};
-ghost use Rattle.bound.specs.Steps.{treeKinds};
-ghost use Rattle.bound.specs.Checks.{allowed, nodeAt, checked, Gives, SameFile};
+ghost use Rattle.bound.specs.Checks.{allowed, nodeAt, finished, checked, Gives, OverTree};
 ghost use Rattle.bound.specs.Trees.{Proves, Accepts};
 ghost use Rattle.bound.specs.Piles.{Every-pile-is-bounded};
 use crate::faults::Fault;
@@ -58,8 +57,9 @@ fn node<P: Programme>(
     fixing: &mut Fixing<P>,
     depth: usize,
 ) -> Result<i64, Refusal>
-    requires { ⌜ depth ≡ countOf (now fixing) ⌝ ∗ ⌜ kindsOf (now reader) ≡ treeKinds ⌝ }
-    ensures file { λ _. ⌜ SameFile (now (reader .entry)) (now (reader .exit)) ⌝ }
+    requires { ⌜ depth ≡ countOf (now fixing) ⌝ ∗ ⌜ OverTree (now reader) ⌝ }
+    ensures file { λ _. ⌜ fileOf (now (reader .exit)) ≡ fileOf (now (reader .entry)) ⌝ }
+    ensures over { λ r. ⌜ made r (λ _. OverTree (now (reader .exit))) ⌝ }
     ensures path { λ r. ⌜ made r (λ _. SamePath (now (fixing .entry)) (now (fixing .exit))) ⌝ }
     ensures gives { λ r. ⌜ Gives (nodeAt (64 - countOf (now (fixing .entry))) (fixed (table (belowOf (now (fixing .entry)))) (heldOf (now (fixing .entry)))) (fileOf (now (reader .entry))) (placeOf (now (reader .entry)))) r (placeOf (now (reader .exit))) ⌝ }
 {
@@ -94,8 +94,9 @@ fn side<P: Programme>(
     variable: usize,
     value: i64,
 ) -> Result<i64, Refusal>
-    requires { ⌜ Free (table (belowOf (now fixing)) .variables) (now fixing) variable ⌝ ∗ ⌜ Small value ⌝ ∗ ⌜ depth ≡ countOf (now fixing) ⌝ ∗ ⌜ kindsOf (now reader) ≡ treeKinds ⌝ }
-    ensures file { λ _. ⌜ SameFile (now (reader .entry)) (now (reader .exit)) ⌝ }
+    requires { ⌜ Free (table (belowOf (now fixing)) .variables) (now fixing) variable ⌝ ∗ ⌜ Small value ⌝ ∗ ⌜ depth ≡ countOf (now fixing) ⌝ ∗ ⌜ OverTree (now reader) ⌝ }
+    ensures file { λ _. ⌜ fileOf (now (reader .exit)) ≡ fileOf (now (reader .entry)) ⌝ }
+    ensures over { λ r. ⌜ made r (λ _. OverTree (now (reader .exit))) ⌝ }
     ensures path { λ r. ⌜ made r (λ _. SamePath (now (fixing .entry)) (now (fixing .exit))) ⌝ }
     ensures gives { λ r. ⌜ Gives (nodeAt (63 - countOf (now (fixing .entry))) (holding (fixed (table (belowOf (now (fixing .entry)))) (heldOf (now (fixing .entry)))) variable value) (fileOf (now (reader .entry))) (placeOf (now (reader .entry)))) r (placeOf (now (reader .exit))) ⌝ }
 {
@@ -108,6 +109,19 @@ fn side<P: Programme>(
     Ok(bound)
 }
 
+// The bound of a whole tree, unless bytes stand after it.
+fn finish(reader: &Reader, bound: i64) -> Result<i64, Refusal>
+    ensures { λ r. ⌜ r ≡ finished (fileOf (now (reader .entry))) bound (placeOf (now (reader .entry))) ⌝ }
+{
+    if !reader.at_end() {
+        return Err(Refusal {
+            fault: Fault::NotOneTree,
+            place: reader.place(),
+        });
+    }
+    Ok(bound)
+}
+
 // The bound of the tree that the file is, over an empty fixing over a sheet over the pile.
 fn walk<P: Programme>(pile: &P, file: &[u8]) -> Result<i64, Refusal>
     ensures { λ r. ⌜ r ≡ checked (table (now (pile .entry))) (now (file .entry)) ⌝ }
@@ -116,13 +130,7 @@ fn walk<P: Programme>(pile: &P, file: &[u8]) -> Result<i64, Refusal>
     let sheet = LimitSheet::of(pile);
     let mut fixing = Fixing::over(&sheet);
     let bound = node(&mut reader, &mut fixing, 0)?;
-    if !reader.at_end() {
-        return Err(Refusal {
-            fault: Fault::NotOneTree,
-            place: reader.place(),
-        });
-    }
-    Ok(bound)
+    finish(&reader, bound)
 }
 
 // The bound that the tree of a file proves of the pile:

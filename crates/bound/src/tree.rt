@@ -1,13 +1,12 @@
 // The steps of a tree file, read one by one up to a split or to the close of a leaf.
 ghost use mathlib.Core.Path.{_≡_};
-ghost use Prim.Native.Nat.{_<_, _≤_};
-ghost use lib.ListN.{length};
+ghost use Prim.Native.Nat.{_<_};
 ghost use denote.Ref.{now};
 ghost use Rattle.std.specs.Vec.{made};
-ghost use Rattle.records.specs.Readers.{fileOf, kindsOf, placeOf};
+ghost use Rattle.records.specs.Readers.{fileOf, placeOf};
 ghost use Rattle.bound.specs.Leaves.{leafBound};
-ghost use Rattle.bound.specs.Steps.{treeKinds, stepAt};
-ghost use Rattle.bound.specs.Checks.{numbered, judged, opened, closing, foundAt, Gives, SameFile};
+ghost use Rattle.bound.specs.Steps.{stepAt};
+ghost use Rattle.bound.specs.Checks.{numbered, judged, opened, closing, foundAt, Gives, OverTree};
 use crate::arithmetic::MOST;
 use crate::faults::Fault;
 use crate::faults::Refusal;
@@ -34,10 +33,11 @@ pub(crate) enum Found {
 
 // The step at the reader's place.
 fn next_step(reader: &mut Reader) -> Result<Step, Refusal>
-    requires { ⌜ kindsOf (now reader) ≡ treeKinds ⌝ }
-    ensures file { λ _. ⌜ SameFile (now (reader .entry)) (now (reader .exit)) ⌝ }
+    requires { ⌜ OverTree (now reader) ⌝ }
+    ensures file { λ _. ⌜ fileOf (now (reader .exit)) ≡ fileOf (now (reader .entry)) ⌝ }
+    ensures over { λ r. ⌜ made r (λ _. OverTree (now (reader .exit))) ⌝ }
     ensures gives { λ r. ⌜ Gives (stepAt (fileOf (now (reader .entry))) (placeOf (now (reader .entry)))) r (placeOf (now (reader .exit))) ⌝ }
-    ensures on { λ r. ⌜ made r (λ _. (placeOf (now (reader .entry)) < placeOf (now (reader .exit))) × (placeOf (now (reader .exit)) ≤ length (fileOf (now (reader .entry))))) ⌝ }
+    ensures on { λ r. ⌜ made r (λ _. placeOf (now (reader .entry)) < placeOf (now (reader .exit))) ⌝ }
 {
     let place = reader.place();
     let Some(record) = reader.next()? else {
@@ -131,8 +131,9 @@ fn close<P: Programme>(programme: &P, weights: &[Weight], place: usize) -> Resul
 
 // Reads on to a split, or to the close of a leaf. The only place that keeps a leaf's weights.
 pub(crate) fn open<P: Programme>(reader: &mut Reader, programme: &P) -> Result<Found, Refusal>
-    requires { ⌜ kindsOf (now reader) ≡ treeKinds ⌝ }
-    ensures file { λ _. ⌜ SameFile (now (reader .entry)) (now (reader .exit)) ⌝ }
+    requires { ⌜ OverTree (now reader) ⌝ }
+    ensures file { λ _. ⌜ fileOf (now (reader .exit)) ≡ fileOf (now (reader .entry)) ⌝ }
+    ensures over { λ r. ⌜ made r (λ _. OverTree (now (reader .exit))) ⌝ }
     ensures gives { λ r. ⌜ Gives (foundAt (table (now (programme .entry))) (fileOf (now (reader .entry))) (placeOf (now (reader .entry)))) r (placeOf (now (reader .exit))) ⌝ }
 {
     let mut weights = [Weight { row: 0, weight: 1 }; 1024];

@@ -12,13 +12,13 @@ use Rattle.std.specs.Numbers.{maxZ}
 use Rattle.std.proofs.shelf.Results.{err-from-errBy}
 use Rattle.std.proofs.shelf.Signed.{toZ-ofZ}
 use Rattle.std.specs.declared.result.Result.the-variants.{Ok, Err}
-use Rattle.records.specs.Readers.{fileOf, kindsOf, placeOf}
+use Rattle.records.specs.Readers.{fileOf, placeOf}
 use Rattle.bound.specs.declared.faults.Fault.the-variants.{TooDeep, SplitBarred}
 use Rattle.bound.specs.declared.fixing.Held.{Held}
 use Rattle.bound.specs.Tables.{Small}
 use Rattle.bound.specs.Layers.{fixed, place, holdAnswer, holdAfter}
-use Rattle.bound.specs.Steps.{treeKinds, refuse}
-use Rattle.bound.specs.Checks.{foundAt, allowed, nodeAt}
+use Rattle.bound.specs.Steps.{refuse}
+use Rattle.bound.specs.Checks.{foundAt, allowed, nodeAt, OverTree}
 use Rattle.bound.specs.Layers.{holding}
 use Rattle.bound.specs.Paths.{heldOf, countOf, belowOf, Free, SamePath}
 use Rattle.bound.proofs.Reading.{node-err, node-leaf, node-barred, node-deep, node-off, node-on, node-both}
@@ -34,6 +34,7 @@ node-returns-in-Break-variable g t c =
     let f = c .args .fixing .now in
     record {
       file = told .file;
+      over = rw (p .1) tt;
       path = rw (p .1) tt;
       gives = rw (p .1, p .2) (node-err (fixed (g .P·Programme .table (belowOf f)) (heldOf f)) (fileOf (c .args .reader .now)) (placeOf (c .args .reader .now)) (64 - countOf f) _ (told .gives));
     }
@@ -46,6 +47,7 @@ node-returns-then-not-may-split g t c =
     let barred : allowed (fixed (g .P·Programme .table (belowOf f)) (heldOf f)) (c .in-Branch .variable) ≡ false = sym (c .may-split .ensures) ∙ c .if-not-may-split .taken in
     record {
       file = told .file;
+      over = tt;
       path = tt;
       gives = node-barred (fixed (g .P·Programme .table (belowOf f)) (heldOf f)) (fileOf (c .args .reader .now)) (placeOf (c .args .reader .now)) (64 - countOf f) _ _ barred found
           ∙ ap (refuse SplitBarred) (sym (c .place-place .ensures));
@@ -59,6 +61,7 @@ node-returns-then-depth-eq-DEEPEST g t c =
     let may : allowed (fixed (g .P·Programme .table (belowOf f)) (heldOf f)) (c .in-Branch .variable) ≡ true = sym (c .may-split .ensures) ∙ c .if-not-may-split .left in
     record {
       file = told .file;
+      over = tt;
       path = tt;
       gives = node-deep (fixed (g .P·Programme .table (belowOf f)) (heldOf f)) (fileOf (c .args .reader .now)) (placeOf (c .args .reader .now)) (64 - countOf f) _ _ (omega (arith, c .pre .0, c .if-depth-eq-DEEPEST .taken)) may found
           ∙ ap (refuse TooDeep) (sym (c .place-place .ensures));
@@ -76,7 +79,7 @@ node-side-requires g t c κs within =
     let free : place v (heldOf f) ≡ countOf f = allowed-free table (heldOf f) v known may ∙ held-count (g .P·Programme .table) f in
     let room : countOf f < 64 = omega (arith, c .pre .0, c .if-depth-eq-DEEPEST .left, f .few) in
     let can : Free (table .variables) f v = (known, free, room) in
-    let kinds : kindsOf (c .open .last .reader) ≡ treeKinds = told .file .1 ∙ c .pre .1 in
+    let over : OverTree (c .open .last .reader) = told .over in
     search needs
 
 pub node-returns-in-Break-off : need.node-returns-in-Break-off
@@ -96,9 +99,10 @@ node-returns-in-Break-off g t c =
     let off = c .in-Break-off .ensures tt in
     let p = err-from-errBy (c .from-residual-in-Break-off .result) (c .from-residual-in-Break-off .ensures .1) in
     let first : nodeAt d (holding here v (pos 0)) file q ≡ Err (c .in-Break-off .field-0 .0) =
-    (λ i. nodeAt d (holding here v (pos 0)) (sym (told .file .0) i) q) ∙ off .gives in
+    (λ i. nodeAt d (holding here v (pos 0)) (sym (told .file) i) q) ∙ off .gives in
     record {
-      file = (off .file .0 ∙ told .file .0, off .file .1 ∙ told .file .1);
+      file = off .file ∙ told .file;
+      over = rw (p .1) tt;
       path = rw (p .1) tt;
       gives = rw (p .1, p .2) (node-off here file at (64 - countOf f) d v q more may found _ first);
     }
@@ -121,7 +125,7 @@ node-side-requires-in-Branch g t c κs within =
     let room′ : countOf f′ < 64 = omega (arith, room, kept .1) in
     let depth′ : c .args .depth ≡ countOf f′ = c .pre .0 ∙ sym (kept .1) in
     let can : Free (g .P·Programme .table (belowOf f′) .variables) f′ v = (known′, free′, room′) in
-    let kinds : kindsOf (c .side .last .reader) ≡ treeKinds = c .in-Continue-off .ensures tt .file .1 ∙ told .file .1 ∙ c .pre .1 in
+    let over : OverTree (c .side .last .reader) = c .in-Continue-off .ensures tt .over in
     search needs
 
 pub node-returns-in-Break-on : need.node-returns-in-Break-on
@@ -143,13 +147,14 @@ node-returns-in-Break-on g t c =
     let f′ = c .side .last .fixing in
     let kept : SamePath f f′ = off .path in
     let first : nodeAt d (holding here v (pos 0)) file q ≡ Ok (c .in-Continue-off .off, mid) =
-    (λ i. nodeAt d (holding here v (pos 0)) (sym (told .file .0) i) q) ∙ off .gives in
+    (λ i. nodeAt d (holding here v (pos 0)) (sym (told .file) i) q) ∙ off .gives in
     let moved : nodeAt d (holding here v (pos 1)) file mid ≡ nodeAt (63 - countOf f′) (holding (fixed (g .P·Programme .table (belowOf f′)) (heldOf f′)) v (pos 1)) (fileOf (c .side .last .reader)) mid =
-    λ i. nodeAt (63 - sym (kept .1) i) (holding (fixed (g .P·Programme .table (sym (kept .2) i)) (sym (kept .0) i)) v (pos 1)) (sym (off .file .0 ∙ told .file .0) i) mid in
+    λ i. nodeAt (63 - sym (kept .1) i) (holding (fixed (g .P·Programme .table (sym (kept .2) i)) (sym (kept .0) i)) v (pos 1)) (sym (off .file ∙ told .file) i) mid in
     let on = c .in-Break-on .ensures tt in
     let p = err-from-errBy (c .from-residual-in-Break-on .result) (c .from-residual-in-Break-on .ensures .1) in
     record {
-      file = (on .file .0 ∙ off .file .0 ∙ told .file .0, on .file .1 ∙ off .file .1 ∙ told .file .1);
+      file = on .file ∙ off .file ∙ told .file;
+      over = rw (p .1) tt;
       path = rw (p .1) tt;
       gives = rw (p .1, p .2) (node-on here file at (64 - countOf f) d v q more may found _ mid _ first (moved ∙ on .gives));
     }
@@ -173,14 +178,15 @@ node-returns-in-Continue-on g t c =
     let f′ = c .side .last .fixing in
     let kept : SamePath f f′ = off .path in
     let first : nodeAt d (holding here v (pos 0)) file q ≡ Ok (c .in-Continue-off .off, mid) =
-    (λ i. nodeAt d (holding here v (pos 0)) (sym (told .file .0) i) q) ∙ off .gives in
+    (λ i. nodeAt d (holding here v (pos 0)) (sym (told .file) i) q) ∙ off .gives in
     let moved : nodeAt d (holding here v (pos 1)) file mid ≡ nodeAt (63 - countOf f′) (holding (fixed (g .P·Programme .table (belowOf f′)) (heldOf f′)) v (pos 1)) (fileOf (c .side .last .reader)) mid =
-    λ i. nodeAt (63 - sym (kept .1) i) (holding (fixed (g .P·Programme .table (sym (kept .2) i)) (sym (kept .0) i)) v (pos 1)) (sym (off .file .0 ∙ told .file .0) i) mid in
+    λ i. nodeAt (63 - sym (kept .1) i) (holding (fixed (g .P·Programme .table (sym (kept .2) i)) (sym (kept .0) i)) v (pos 1)) (sym (off .file ∙ told .file) i) mid in
     let on = c .in-Continue-on .ensures tt in
     let kept′ : SamePath f′ (c .side-in-Branch .last .fixing) = on .path in
     let greater = toZ-ofZ w64 (c .max .result) (search needs) ∙ c .max .ensures .value ∙ (λ i. maxZ (toZ-ofZ w64 (c .in-Continue-off .off) (search needs) i) (toZ-ofZ w64 (c .in-Continue-on .on) (search needs) i)) in
     record {
-      file = (on .file .0 ∙ off .file .0 ∙ told .file .0, on .file .1 ∙ off .file .1 ∙ told .file .1);
+      file = on .file ∙ off .file ∙ told .file;
+      over = on .over;
       path = (kept′ .0 ∙ kept .0, kept′ .1 ∙ kept .1, kept′ .2 ∙ kept .2);
       gives = node-both here file at (64 - countOf f) d v q more may found _ mid _ _ first (moved ∙ on .gives)
           ∙ ap (λ b. Ok (b, placeOf (c .side-in-Branch .last .reader))) (sym greater);
@@ -194,6 +200,7 @@ node-returns-in-Leaf g t c =
     let found = told .gives ∙ ap (λ s. Ok (s, q)) (c .in-Leaf .is) in
     record {
       file = told .file;
+      over = told .over;
       path = (refl, refl, refl);
       gives = node-leaf (fixed (g .P·Programme .table (belowOf f)) (heldOf f)) (fileOf (c .args .reader .now)) (placeOf (c .args .reader .now)) (64 - countOf f) _ q found
           ∙ ap (λ b. Ok (b, q)) (sym (toZ-ofZ w64 (c .in-Leaf .bound) (search needs)));
@@ -217,6 +224,7 @@ side-returns-in-Break-bound g t c =
     let p = err-from-errBy (c .from-residual .result) (c .from-residual .ensures .1) in
     record {
       file = told .file;
+      over = rw (p .1) tt;
       path = rw (p .1) tt;
       gives = rw (p .1, p .2) ((λ i. nodeAt (depth i) (down .means i) (fileOf (c .args .reader .now)) (placeOf (c .args .reader .now))) ∙ told .gives);
     }
@@ -231,6 +239,7 @@ side-returns g t c =
     let told = c .in-Continue-bound .ensures tt in
     record {
       file = told .file;
+      over = told .over;
       path = back-up (g .P·Programme .table) f f′ (c .node .last .fixing) (c .release .last .self) (c .args .variable) (c .args .value) down (told .path) (c .release .ensures .held) (c .release .ensures .below);
       gives = (λ i. nodeAt (depth i) (down .means i) (fileOf (c .args .reader .now)) (placeOf (c .args .reader .now))) ∙ told .gives
           ∙ ap (λ b. Ok (b, placeOf (c .node .last .reader))) (sym (toZ-ofZ w64 (c .in-Continue-bound .bound) (search needs)));

@@ -17,11 +17,12 @@ use Rattle.bound.specs.Checks.{opened, judged, closing, nextRow, leafAt}
 use Rattle.bound.specs.Leaves.{leafBound}
 use Rattle.bound.proofs.Walks.{accepted, rises-past}
 use Rattle.bound.specs.Steps.{stepAt, and-then}
+use Rattle.bound.proofs.Outcomes.{made-always}
 use Rattle.bound.proofs.Reading.{gives-then, leaf-err, leaf-ok}
 use Rattle.bound.proofs.tree.open.Needs as need
 
 pub loop-variable-holds : need.loop-variable-holds
-loop-variable-holds g c = (refl, refl, refl, omega arith, omega arith, refl, (length (fileOf (c .args .reader .now)), omega arith, refl))
+loop-variable-holds g c = (refl, c .pre, refl, omega arith, omega arith, refl, (length (fileOf (c .args .reader .now)), omega arith, refl))
 
 pub returns-in-Break-variable : need.returns-in-Break-variable
 returns-in-Break-variable g c =
@@ -32,7 +33,8 @@ returns-in-Break-variable g c =
     let t = g .P·Programme .table (c .args .programme .now) in
     let p = err-from-errBy (c .from-residual .result) (c .from-residual .ensures .1) in
     record {
-      file = (told .file .0 ∙ inv .0, told .file .1 ∙ inv .1);
+      file = told .file ∙ inv .0;
+      over = rw (p .1) tt;
       gives = rw (p .1, p .2) (walk .2 ∙ leaf-err (walk .0) t _ _ at (walk .1) _ (ap (λ f. stepAt f at) (sym (inv .0)) ∙ told .gives));
     }
 
@@ -56,7 +58,8 @@ returns-in-Split g c =
     let is : c .branch-variable-count .result ≡ opened (t .variables) (length ws) v at =
     c .branch-variable-count .ensures ∙ (λ i. opened (c .variable-count .ensures i) (size i) (toZ-ofZ w64 v fits i) (c .place-place .ensures i)) in
     record {
-      file = (told .file .0 ∙ inv .0, told .file .1 ∙ inv .1);
+      file = told .file ∙ inv .0;
+      over = made-always (c .branch-variable-count .result) (told .over);
       gives = gives-then _ (c .branch-variable-count .result) q (walk .2 ∙ leaf-ok (walk .0) t file ws at (walk .1) _ q step ∙ ap (λ r. and-then r (λ f. Ok (f, q))) (sym is));
     }
 
@@ -81,7 +84,8 @@ returns-in-Break-judged g c =
     sym (sym (c .in-Break-judged .was tt) ∙ c .judge .ensures ∙ (λ i. judged (size i) (sym (inv .5) i) (c .rows .ensures i) (toZ-ofZ w64 (c .in-Row .row) row i) (toZ-ofZ w64 (c .in-Row .weight) weight i) (c .place-place .ensures i))) in
     let p = err-from-errBy (c .from-residual-in-Break-judged .result) (c .from-residual-in-Break-judged .ensures .1) in
     record {
-      file = (told .file .0 ∙ inv .0, told .file .1 ∙ inv .1);
+      file = told .file ∙ inv .0;
+      over = rw (p .1) tt;
       gives = rw (p .1, p .2) (walk .2 ∙ leaf-ok (walk .0) t file ws at (walk .1) _ q step ∙ ap (λ r. and-then r (λ x. leafAt (walk .0 - 1) t file (ws ++ x ∷ []) q)) is);
     }
 
@@ -110,15 +114,15 @@ loop-variable-again g c =
     let after : count ≤ w .row = rises-past count (length ws) (nextRow ws) (w .row) size (omega (arith, inv .3, inv .5)) (good .rises) in
     let room : count < length weights = omega (arith, inv .2, after, good .there, g .P·Programme .lawful program .few-rows) in
     let more : take (count + 1) (set weights count w) ≡ ws ++ w ∷ [] = take-more-set weights count w room in (
-      told .file .0 ∙ inv .0,
-      told .file .1 ∙ inv .1,
+      told .file ∙ inv .0,
+      told .over,
       simp length-set (inv .2),
       omega (arith, after),
       omega (arith, good .there),
       ap nextRow more ∙ folded-push (λ n w. w .row + 1) 0 ws w,
       (
         walk .0 - 1,
-        omega (arith, walk .1, told .on .0),
+        omega (arith, walk .1, told .on),
         walk .2 ∙ leaf-ok (walk .0) t file ws at (walk .1) _ q step ∙ ap (λ r. and-then r (λ x. leafAt (walk .0 - 1) t file (ws ++ x ∷ []) q)) is
             ∙ ap (λ l. leafAt (walk .0 - 1) t file l q) (sym more),
       ),
@@ -140,6 +144,7 @@ returns-in-Close g c =
     let is : c .close .result ≡ closing (leafBound t ws) at =
     c .close .ensures ∙ (λ i. closing (leafBound t (take (whole i) (c .loop-variable .weights))) (c .place-place .ensures i)) in
     record {
-      file = (told .file .0 ∙ inv .0, told .file .1 ∙ inv .1);
+      file = told .file ∙ inv .0;
+      over = made-always (c .close .result) (told .over);
       gives = gives-then _ (c .close .result) q (walk .2 ∙ leaf-ok (walk .0) t file ws at (walk .1) _ q step ∙ ap (λ r. and-then r (λ f. Ok (f, q))) (sym is));
     }

@@ -1,8 +1,8 @@
 use mathlib.Core.Path.{_≡_}
 use Prim.Native.Nat.{ℕ, _+_, _-_, _≤_}
 use lib.ListN.{length, take}
-use Rattle.records.specs.Readers.{fileOf, kindsOf, placeOf}
-use Rattle.bound.specs.Checks.{nextRow, leafAt, foundAt}
+use Rattle.records.specs.Readers.{fileOf, placeOf}
+use Rattle.bound.specs.Checks.{nextRow, leafAt, foundAt, OverTree}
 use Rattle.bound.proofs.tree.open.Given as given
 
 -- the weights that are read, and what is left to read decides
@@ -12,7 +12,7 @@ Inv-loop-variable g l =
     let t = g .P·Programme .table (l .programme) in
     let ws = take (l .count) (l .weights) in
     (fileOf (l .reader) ≡ file)
-    × (kindsOf (l .reader) ≡ kindsOf (l .entry .reader))
+    × OverTree (l .reader)
     × (length (l .weights) ≡ 1024)
     × (l .count ≤ l .next)
     × (l .next ≤ t .rows)
