@@ -69,7 +69,7 @@ pub fn sold_by(window: u8, quantity: u16, w: usize, parts: i32) -> i64
 // price × quantity × parts
 pub fn worth(price: i32, quantity: u16, parts: i32) -> i64
     requires { ⌜ Within 99999 price × (quantity ≤ 9999) × Within 10000 parts ⌝ }
-    ensures { λ r. ⌜ (r ≡ price *ℤ pos quantity *ℤ parts) × Within 9998900010000 r ⌝ }
+    ensures { λ r. ⌜ (r ≡ price *ℤ pos quantity *ℤ parts) × Within (quantity * 999990000) r ⌝ }
 {
     price as i64 * quantity as i64 * parts as i64
 }

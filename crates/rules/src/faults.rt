@@ -1,6 +1,6 @@
 // What can be wrong with a clearing.
 ghost use mathlib.Core.Path.{_≡_};
-ghost use Rattle.rules.specs.Faults.{ruleNumber};
+ghost use Rattle.rules.specs.Faults.{code};
 
 // The rules of a clearing, in the order in which they are judged.
 #[derive(Clone, Copy, Debug, PartialEq)]
@@ -26,7 +26,7 @@ pub struct Breach {
 
 impl Rule {
     pub fn number(self) -> u8
-        ensures { λ r. ⌜ r ≡ ruleNumber self ⌝ }
+        ensures { λ r. ⌜ r ≡ code self .number ⌝ }
     {
         match self {
             Rule::WholeParents => 12,
@@ -40,5 +40,11 @@ impl Rule {
             Rule::BasketSurplus => 20,
             Rule::BuyPrices => 21,
         }
+    }
+
+    pub fn layer(self) -> u8
+        ensures { λ r. ⌜ r ≡ code self .layer ⌝ }
+    {
+        3
     }
 }

@@ -24,7 +24,7 @@ use market::ClosedMarket;
 // A sell order's worth at its own price.
 fn sell_worth(price: i32, quantities: [u16; 6], parts: i32) -> i64
     requires { ⌜ Small quantities ⌝ ∗ ⌜ Within 99999 price ⌝ ∗ ⌜ Within 10000 parts ⌝ }
-    ensures { λ r. ⌜ Summed (productWorth price quantities parts) 9998900010000 6 r ⌝ }
+    ensures { λ r. ⌜ Summed (productWorth price quantities parts) 998990010000 6 r ⌝ }
 {
     let mut sum: i64 = 0;
     for p in 0..6 {
@@ -47,7 +47,7 @@ fn buys_worth(m: &ClosedMarket, s: &[i32]) -> i64
 
 fn parents_worth(m: &ClosedMarket, s: &[i32]) -> i64
     requires { ⌜ Filled (now s) ⌝ }
-    ensures { λ r. ⌜ Summed (parentWorth (closedOf (now (m .entry))) (partsIn (now (s .entry)))) 59993400060000 (length (closedOf (now (m .entry)) .baskets)) r ⌝ }
+    ensures { λ r. ⌜ Summed (parentWorth (closedOf (now (m .entry))) (partsIn (now (s .entry)))) 5993940060000 (length (closedOf (now (m .entry)) .baskets)) r ⌝ }
 {
     let mut sum: i64 = 0;
     for b in 0..basket_count(m) {
@@ -59,7 +59,7 @@ fn parents_worth(m: &ClosedMarket, s: &[i32]) -> i64
 
 fn extras_worth(m: &ClosedMarket, s: &[i32]) -> i64
     requires { ⌜ Filled (now s) ⌝ }
-    ensures { λ r. ⌜ Summed (extraWorth (closedOf (now (m .entry))) (partsIn (now (s .entry)))) 59993400060000 (length (closedOf (now (m .entry)) .extras)) r ⌝ }
+    ensures { λ r. ⌜ Summed (extraWorth (closedOf (now (m .entry))) (partsIn (now (s .entry)))) 5993940060000 (length (closedOf (now (m .entry)) .extras)) r ⌝ }
 {
     let mut sum: i64 = 0;
     for k in 0..extra_count(m) {
@@ -72,7 +72,8 @@ fn extras_worth(m: &ClosedMarket, s: &[i32]) -> i64
 // What buys are worth, less what sells are worth.
 pub fn welfare(m: &ClosedMarket, s: &[i32]) -> i64
     requires { ⌜ Filled (now s) ⌝ }
-    ensures { λ r. ⌜ r ≡ welfareOf (closedOf (now (m .entry))) (partsIn (now (s .entry))) ⌝ }
+    ensures is { λ r. ⌜ r ≡ welfareOf (closedOf (now (m .entry))) (partsIn (now (s .entry))) ⌝ }
+    ensures size { λ r. ⌜ Within 5000000000000000 r ⌝ }
 {
     buys_worth(m, s) - (parents_worth(m, s) + extras_worth(m, s))
 }
@@ -80,7 +81,7 @@ pub fn welfare(m: &ClosedMarket, s: &[i32]) -> i64
 // What a sell order is paid.
 fn payment(s: &[i32], window: u8, quantities: [u16; 6], parts: i32) -> i64
     requires { ⌜ Filled (now s) ⌝ ∗ ⌜ window < 32 ⌝ ∗ ⌜ Small quantities ⌝ ∗ ⌜ Within 10000 parts ⌝ }
-    ensures { λ r. ⌜ Summed (productPayment (pricesIn (now (s .entry))) window quantities parts) 9998900010000 6 r ⌝ }
+    ensures { λ r. ⌜ Summed (productPayment (pricesIn (now (s .entry))) window quantities parts) 998990010000 6 r ⌝ }
 {
     let mut sum: i64 = 0;
     for p in 0..6 {
@@ -91,7 +92,7 @@ fn payment(s: &[i32], window: u8, quantities: [u16; 6], parts: i32) -> i64
 
 fn parents_paid(m: &ClosedMarket, s: &[i32]) -> i64
     requires { ⌜ Filled (now s) ⌝ }
-    ensures { λ r. ⌜ Summed (parentPayment (closedOf (now (m .entry))) (partsIn (now (s .entry))) (pricesIn (now (s .entry)))) 59993400060000 (length (closedOf (now (m .entry)) .baskets)) r ⌝ }
+    ensures { λ r. ⌜ Summed (parentPayment (closedOf (now (m .entry))) (partsIn (now (s .entry))) (pricesIn (now (s .entry)))) 5993940060000 (length (closedOf (now (m .entry)) .baskets)) r ⌝ }
 {
     let mut sum: i64 = 0;
     for b in 0..basket_count(m) {
@@ -103,7 +104,7 @@ fn parents_paid(m: &ClosedMarket, s: &[i32]) -> i64
 
 fn extras_paid(m: &ClosedMarket, s: &[i32]) -> i64
     requires { ⌜ Filled (now s) ⌝ }
-    ensures { λ r. ⌜ Summed (extraPayment (closedOf (now (m .entry))) (partsIn (now (s .entry))) (pricesIn (now (s .entry)))) 59993400060000 (length (closedOf (now (m .entry)) .extras)) r ⌝ }
+    ensures { λ r. ⌜ Summed (extraPayment (closedOf (now (m .entry))) (partsIn (now (s .entry))) (pricesIn (now (s .entry)))) 5993940060000 (length (closedOf (now (m .entry)) .extras)) r ⌝ }
 {
     let mut sum: i64 = 0;
     for k in 0..extra_count(m) {
@@ -121,7 +122,8 @@ fn extras_paid(m: &ClosedMarket, s: &[i32]) -> i64
 // What all sell orders are paid.
 pub fn cost(m: &ClosedMarket, s: &[i32]) -> i64
     requires { ⌜ Filled (now s) ⌝ }
-    ensures { λ r. ⌜ r ≡ costOf (closedOf (now (m .entry))) (partsIn (now (s .entry))) (pricesIn (now (s .entry))) ⌝ }
+    ensures is { λ r. ⌜ r ≡ costOf (closedOf (now (m .entry))) (partsIn (now (s .entry))) (pricesIn (now (s .entry))) ⌝ }
+    ensures size { λ r. ⌜ Within 5000000000000000 r ⌝ }
 {
     parents_paid(m, s) + extras_paid(m, s)
 }

@@ -5,4 +5,4 @@ use Rattle.rules.specs.Clearings.{extraWorth}
 use Rattle.rules.proofs.values.extras_worth.Given as given
 
 abbrev pub Inv-loop-k : given.InvT-loop-k
-Inv-loop-k l = Summed (extraWorth (closedOf (l .m)) (partsIn (l .s))) 59993400060000 (l .k) (l .sum)
+Inv-loop-k l = Summed (extraWorth (closedOf (l .m)) (partsIn (l .s))) 5993940060000 (l .k) (l .sum)

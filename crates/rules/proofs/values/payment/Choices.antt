@@ -4,4 +4,4 @@ use Rattle.rules.specs.Prices.{productPayment}
 use Rattle.rules.proofs.values.payment.Given as given
 
 abbrev pub Inv-loop-p : given.InvT-loop-p
-Inv-loop-p l = Summed (productPayment (pricesIn (l .s)) (l .window) (l .quantities) (l .parts)) 9998900010000 (l .p) (l .sum)
+Inv-loop-p l = Summed (productPayment (pricesIn (l .s)) (l .window) (l .quantities) (l .parts)) 998990010000 (l .p) (l .sum)
