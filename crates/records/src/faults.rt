@@ -3,6 +3,9 @@ ghost use mathlib.Core.Path.{_≡_};
 ghost use Rattle.records.specs.Faults.{code};
 use super::Fault;
 
+// The lowest layer: files as files of records.
+const FILES: u8 = 1;
+
 impl Fault {
     pub fn number(self) -> u8
         ensures { λ r. ⌜ r ≡ code self .number ⌝ }
@@ -10,10 +13,9 @@ impl Fault {
         self as u8
     }
 
-    // All of them belong to the lowest layer, that of files.
     pub fn layer(self) -> u8
         ensures { λ r. ⌜ r ≡ code self .layer ⌝ }
     {
-        1
+        FILES
     }
 }

@@ -5,6 +5,7 @@ mod faults;
 mod fields;
 mod heads;
 pub mod laws;
+mod positions;
 mod readers;
 
 // What can be wrong with a file as a file of records.

@@ -1,7 +1,6 @@
 // The records of a file, one by one.
 ghost use mathlib.Core.Path.{_≡_};
-ghost use lib.Dec.{leb};
-ghost use lib.ListN.{length, drop};
+ghost use lib.ListN.{drop};
 ghost use Rattle.records.specs.Readers.{fileOf, kindsOf, placeOf, Opened, Next, Handed};
 use super::Fault;
 use super::Kind;
@@ -29,20 +28,6 @@ impl<'a> Reader<'a> {
             kinds,
             place: 0,
         })
-    }
-
-    // The offset of the next record.
-    pub fn place(&self) -> usize
-        ensures { λ r. ⌜ r ≡ placeOf (now (self .entry)) ⌝ }
-    {
-        self.place
-    }
-
-    // Whether every byte is read.
-    pub fn at_end(&self) -> bool
-        ensures { λ r. ⌜ r ≡ leb (length (fileOf (now (self .entry)))) (placeOf (now (self .entry))) ⌝ }
-    {
-        self.place >= self.file.len()
     }
 
     // The record at the reader's place, which moves on past it, or none where every byte is read.

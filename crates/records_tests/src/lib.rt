@@ -1,0 +1,3 @@
+// Tests of the crate `records`, in a crate of their own: a crate is proved once more with its tests.
+#[cfg(test)]
+mod tests;
