@@ -10,3 +10,4 @@ pub mod PriceRows
 pub mod PriceLists
 pub mod Costs
 pub mod Gaps
+pub mod Terms

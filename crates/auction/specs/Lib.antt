@@ -4,4 +4,5 @@ pub mod Pricing
 pub mod Sizes
 pub mod AcceptanceLaw
 pub mod PricingLaw
+pub mod Views
 pub mod Theorems

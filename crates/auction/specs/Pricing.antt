@@ -1,7 +1,7 @@
 -- The price programme of a market with the parts X: its table, row by row. Its variables are the lines.
 use mathlib.Core.Path.{_≡_}
 use mathlib.Core.Bool.{Bool, false, cond, not, _&&_}
-use Prim.Native.Nat.{ℕ, _+_, _-_, _/_, _%_}
+use Prim.Native.Nat.{ℕ, _+_, _-_, _/_, _%_, _<_, _≤_}
 use lib.Dec.{eqb, ltb}
 use lib.ListN.{length}
 use lib.IntN.{ℤ, pos, negℤ, _+ℤ_, _*ℤ_}
@@ -73,6 +73,14 @@ buyRow m X i = cond (ltb i (length (m .buys)) && (not (buyAt m i .permit) && ltZ
 -- 0–95 children and substitutes; 96–191 baskets; 192–255 buys
 abbrev pub priceRow : Market → (ℕ → ℤ) → ℕ → PriceRow
 priceRow m X r = cond (ltb r 96) (extraRow m X r) (cond (ltb r 192) (basketRow m (r - 96)) (buyRow m X (r - 192)))
+
+-- a basket in a row has a number below 96
+abbrev pub Numbered : PriceRow → Type 0
+Numbered (Extra k) = 0 ≤ 0
+Numbered (Basket b) = b < 96
+Numbered (Loop b) = 0 ≤ 0
+Numbered (Buy i) = 0 ≤ 0
+Numbered Zero = 0 ≤ 0
 
 -- The coefficients of each kind of row.
 abbrev pub priceNumbers : Market → (ℕ → ℤ) → PriceRow → ℕ → ℤ

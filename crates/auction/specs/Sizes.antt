@@ -129,30 +129,30 @@ module _ (m : Market) (good : Lawful m) where
   extra-measure-within (On l) k = let h = sell-within (extraWindow m k) (extraAt m k .quantities) l (extra-quantities k) in within-pos 999890001 (extraOn m l k) (omega arith)
   extra-measure-within Value k = let h = six (extraAt m k .quantities) (extra-quantities k) in value-within _ _ (extra-price k) (omega arith)
 
-  module _ (X : ℕ → ℤ) (parts : (v : ℕ) → Within 10000 (X v)) where
-    pub parent-within : (a : Measure) (b : ℕ) → Within 9998900010000 (parentSum m X a b)
-    parent-within a b = within-times 999890001 10000 _ _ (parent-measure-within a b) (parts (64 + b))
+  -- the parts of the 256 variables are at most 10,000
+  module _ (X : ℕ → ℤ) (parts : (v : ℕ) → v < 256 → Within 10000 (X v)) where
+    pub parent-within : (a : Measure) (b : ℕ) → b < 96 → Within 9998900010000 (parentSum m X a b)
+    parent-within a b h = within-times 999890001 10000 _ _ (parent-measure-within a b) (parts (64 + b) (omega arith))
 
-    pub extra-within : (a : Measure) (k : ℕ) → Within 9998900010000 (extraSum m X a k)
-    extra-within a k = within-times 999890001 10000 _ _ (extra-measure-within a k) (parts (160 + k))
+    pub extra-within : (a : Measure) (k : ℕ) → k < 96 → Within 9998900010000 (extraSum m X a k)
+    extra-within a k h = within-times 999890001 10000 _ _ (extra-measure-within a k) (parts (160 + k) (omega arith))
 
-    -- the first n terms of a sum, and a whole one
-    pub basket-part-within : (a : Measure) (b k : ℕ) → Within 9998900010000 (ofBasket m X a b k)
-    basket-part-within a b k = within-if 9998900010000 (eqb (extraAt m k .basket) b) (extraSum m X a k) (extra-within a k)
+    pub of-basket-within : (a : Measure) (b k : ℕ) → k < 96 → Within 9998900010000 (ofBasket m X a b k)
+    of-basket-within a b k h = within-if 9998900010000 (eqb (extraAt m k .basket) b) (extraSum m X a k) (extra-within a k h)
 
-    pub few-within : (n size : ℕ) (f : ℕ → ℤ) → n ≤ 96 → ((i : ℕ) → Within size (f i)) → Within (96 * size) (sumTo n f)
-    few-within n size f l h = wider (n * size) (96 * size) _ (mul-le-mul-right size l) (sum-within n size f h)
+    pub few-within : (n size : ℕ) (f : ℕ → ℤ) → n ≤ 96 → ((i : ℕ) → i < 96 → Within size (f i)) → Within (96 * size) (sumTo n f)
+    few-within n size f l h = wider (n * size) (96 * size) _ (mul-le-mul-right size l) (sum-within n size f (λ i g. h i (omega arith)))
 
-    pub basket-sum-within : (a : Measure) (b : ℕ) → Within 969893300970000 (basketSum m X a b)
-    basket-sum-within a b =
-        within-add 9998900010000 959894400960000 _ _ (parent-within a b)
-        (few-within (length (m .extras)) 9998900010000 (ofBasket m X a b) (good .few-extras) (basket-part-within a b))
+    pub basket-sum-within : (a : Measure) (b : ℕ) → b < 96 → Within 969893300970000 (basketSum m X a b)
+    basket-sum-within a b h =
+        within-add 9998900010000 959894400960000 _ _ (parent-within a b h)
+        (few-within (length (m .extras)) 9998900010000 (ofBasket m X a b) (good .few-extras) (of-basket-within a b))
 
-    pub loop-part-within : (a : Measure) (r b : ℕ) → Within 969893300970000 (ofLoop m X a r b)
-    loop-part-within a r b = within-if 969893300970000 (eqb (basketAt m b .ring) r) (basketSum m X a b) (basket-sum-within a b)
+    pub of-loop-within : (a : Measure) (r b : ℕ) → b < 96 → Within 969893300970000 (ofLoop m X a r b)
+    of-loop-within a r b h = within-if 969893300970000 (eqb (basketAt m b .ring) r) (basketSum m X a b) (basket-sum-within a b h)
 
     pub loop-sum-within : (a : Measure) (r : ℕ) → Within 93109756893120000 (loopSum m X a r)
-    loop-sum-within a r = few-within (length (m .baskets)) 969893300970000 (ofLoop m X a r) (good .few-baskets) (loop-part-within a r)
+    loop-sum-within a r = few-within (length (m .baskets)) 969893300970000 (ofLoop m X a r) (good .few-baskets) (of-loop-within a r)
 
     pub market-sum-within : (a : Measure) → Within 1919788801920000 (marketSum m X a)
     market-sum-within a =

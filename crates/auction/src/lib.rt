@@ -4,11 +4,14 @@
 mod acceptance;
 mod forms;
 mod orders;
+mod pricing;
 mod rows;
 mod theorems;
 
 pub use acceptance::AcceptanceProgramme;
 pub use acceptance::AcceptanceTable;
+pub use pricing::PriceProgramme;
+pub use pricing::PriceTable;
 pub use theorems::costs_stay_above;
 pub use theorems::points_are_clearings;
 pub use theorems::points_are_price_lists;

@@ -2,17 +2,24 @@
 ghost use mathlib.Core.Path.{_≡_};
 ghost use lib.IntN.{pos, negsuc, negℤ, _+ℤ_};
 ghost use Rattle.market.specs.View.{closedOf};
-ghost use Rattle.auction.specs.Orders.{buyOn, sellOn, basketOn, extraOn, total, orderValue, buyValue, basketValue, extraValue};
+ghost use Rattle.auction.specs.Orders.{buyLine, buyOn, sellOn, basketOn, extraOn, total, orderValue, buyValue, basketValue, extraValue};
 ghost use Rattle.auction.specs.Acceptance.{first, stands};
 use market::ClosedMarket;
+
+// The line of a buy.
+pub(crate) fn buy_line(market: &ClosedMarket, i: usize) -> usize
+    ensures { λ r. ⌜ r ≡ buyLine (closedOf (now (market .entry))) i ⌝ }
+{
+    let buy = market.buy(i);
+    6 * (buy.window as usize) + (buy.product as usize)
+}
 
 // The quantity that a buy asks on a line.
 pub(crate) fn buy_on(market: &ClosedMarket, line: usize, i: usize) -> u16
     ensures { λ r. ⌜ r ≡ buyOn (closedOf (now (market .entry))) line i ⌝ }
 {
-    let buy = market.buy(i);
-    if 6 * (buy.window as usize) + (buy.product as usize) == line {
-        return buy.quantity;
+    if buy_line(market, i) == line {
+        return market.buy(i).quantity;
     }
     0
 }

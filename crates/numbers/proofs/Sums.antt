@@ -142,11 +142,11 @@ unfolding sumTo
 sum-more i f = rw add-one refl
 
 -- terms of a known size
-pub sum-within : (n size : ℕ) (f : ℕ → ℤ) → ((i : ℕ) → Within size (f i)) → Within (n * size) (sumTo n f)
+pub sum-within : (n size : ℕ) (f : ℕ → ℤ) → ((i : ℕ) → i < n → Within size (f i)) → Within (n * size) (sumTo n f)
 unfolding sumTo
 sum-within zero size f h = (omega (arith, ints), omega (arith, ints))
 sum-within (suc n) size f h =
-    let e = sum-within n size f h in
-    let l = h n in
+    let e = sum-within n size f (λ i l. h i (omega arith)) in
+    let l = h n (omega arith) in
     let m : suc n * size ≡ n * size + size = omega arith in
     (omega (arith, ints), omega (arith, ints))
