@@ -1,13 +1,13 @@
 -- Nothing is wrong with the record of an entry that keeps the lines after a market.
 use mathlib.Core.Path.{_≡_, refl, sym, ap, subst, _∙_}
 use mathlib.Core.Bool.{Bool, true, false, cond}
-use mathlib.Core.List.{List, [], _∷_, _++_, map}
-use mathlib.Core.Logic.{_⊎_, inl, inr, ⊎-elim}
-use Prim.Native.Nat.{ℕ, zero, suc, _+_, _<_, _≤_}
+use mathlib.Core.List.{List, [], _∷_, _++_}
+use mathlib.Core.Logic.{_⊎_, ⊎-elim}
+use Prim.Native.Nat.{ℕ, _+_, _<_, _≤_}
 use native.Mathlib.Omega.{arith}
-use lib.IntN.{ℤ, pos, negsuc, _+ℤ_}
+use lib.IntN.{ℤ, pos}
 use lib.ListN.{length, getD}
-use lib.Signed.{_≤ℤ_, _<ℤ_}
+use lib.Signed.{_<ℤ_}
 use Rattle.std.proofs.shelf.Lists.{getD-append-left, getD-push, length-push}
 use Rattle.std.proofs.shelf.Signed.{ints}
 use Rattle.std.proofs.shelf.Tests.{le-leb}
@@ -25,7 +25,7 @@ use Rattle.market.specs.declared.faults.Fault.{Fault}
 use Rattle.market.specs.declared.faults.Fault.the-variants.{Record, OutsideLimits, Absent, TableFull, WindowOverlaps, LoopBroken}
 use Rattle.market.specs.Files.{kindIn, roleKind}
 use Rattle.market.specs.Lawful.{GoodPrice, GoodQuantities, GoodWindow, GoodBuy, GoodBasket, GoodExtra, GoodLoop, Lawful}
-use Rattle.market.specs.Market.{Market, noWindow, noBuy, noBasket, noExtra, windowAt, buyAt, basketAt, extraAt, Share, put}
+use Rattle.market.specs.Market.{Market, noWindow, noBuy, noBasket, noExtra, windowAt, basketAt, Share, put}
 use Rattle.market.specs.Reading.{field, windowOf, basketOf, kindOf, aChild, aSubstitute}
 use Rattle.market.specs.Services.{terms}
 use Rattle.market.specs.Wrong.{Between, Price, Quantities, Disallowed, Has}

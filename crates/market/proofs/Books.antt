@@ -1,15 +1,14 @@
 -- A book's market is lawful, open or closed.
-use mathlib.Core.Path.{_≡_, refl, sym, ap, _∙_}
-use mathlib.Core.Bool.{Bool, true, false, not, _&&_, _||_}
+use mathlib.Core.Path.{_≡_, sym, _∙_}
+use mathlib.Core.Bool.{true, false, not, _&&_}
 use mathlib.Core.List.{List}
 use mathlib.Core.Logic.{_⊎_, inl, inr, ⊎-elim}
-use Prim.Native.Nat.{ℕ, _+_, _<_, _≤_}
+use Prim.Native.Nat.{ℕ, _<_, _≤_}
 use native.Mathlib.Omega.{arith}
 use lib.Dec.{leb, eqb}
 use lib.IntN.{ℤ, pos, negsuc}
 use lib.ListN.{length, getD}
-use lib.Signed.{ltZ, leZ, _≤ℤ_}
-use Rattle.std.specs.Of.Vec.{vec-items}
+use lib.Signed.{ltZ, leZ}
 use Rattle.std.proofs.shelf.Signed.{ints}
 use Rattle.std.proofs.shelf.Tests.{and-parts, or-parts, leb-true, leb-false, eqb-true, not-true, cases-eq, cases-order}
 use Rattle.std.proofs.shelf.Ways.{tells, not-from-decides, decides-eqb}

@@ -1,9 +1,9 @@
 -- The fault that the tests find is the first that applies to the record.
 use mathlib.Core.Path.{_≡_, refl, sym, ap, subst, _∙_}
-use mathlib.Core.Bool.{Bool, true, false, not, _&&_, _||_}
+use mathlib.Core.Bool.{Bool, true, false, not, _||_}
 use mathlib.Core.List.{List}
 use mathlib.Core.Logic.{_⊎_}
-use Prim.Native.Nat.{ℕ, _+_, _<_, _≤_}
+use Prim.Native.Nat.{ℕ, _<_, _≤_}
 use native.Mathlib.Omega.{arith}
 use lib.Dec.{leb}
 use lib.IntN.{ℤ, pos, negsuc}
@@ -27,7 +27,7 @@ use Rattle.market.specs.Market.{Market, windowAt, basketAt, Share}
 use Rattle.market.specs.Reading.{byteOf, priceOf, field, areQuantities, quantitiesOf, windowOf, basketOf, limitsOf, entryOf, limits, entryIn, readEntry, kindOf, Kind, aWindow, aBuy, aBasket, aChild, aSubstitute}
 use Rattle.market.specs.Services.{terms}
 use Rattle.market.specs.Tests.{clash, breaks, unfit, absent, full, overlapping, breaking, first, fault}
-use Rattle.market.specs.Wrong.{Within, Names, Disallowed, Missing, Full, Overlaps, Breaks, Beside, Has, number, Faulty}
+use Rattle.market.specs.Wrong.{Names, Disallowed, Missing, Full, Overlaps, Breaks, Beside, Has, number, Faulty}
 use Rattle.market.proofs.Books.{Sound}
 use Rattle.market.proofs.Deciding.{dec-leb, dec-clash, dec-breaks}
 use Rattle.market.proofs.Fields.{dec-limits, dec-names, dec-at, dec-unfit, dec-price}

@@ -9,4 +9,5 @@ pub mod Spelling
 pub mod Running
 pub mod Returning
 pub mod Admitting
+pub mod Writing
 pub mod Outcomes

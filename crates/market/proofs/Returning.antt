@@ -1,18 +1,17 @@
 -- An entry that keeps the lines is what its own record spells, and nothing is wrong with that record.
-use mathlib.Core.Path.{_≡_, refl, sym, ap, subst, _∙_}
+use mathlib.Core.Path.{_≡_, refl, sym, ap, _∙_}
 use mathlib.Core.Bool.{Bool, true, false, cond}
 use mathlib.Core.List.{List, [], _∷_, _++_, map}
-use mathlib.Core.Logic.{_⊎_, inl, inr, ⊎-elim}
+use mathlib.Core.Logic.{_⊎_, ⊎-elim}
 use Prim.Native.Nat.{ℕ, zero, suc, _+_, _<_, _≤_}
 use native.Mathlib.Omega.{arith}
-use lib.Dec.{eqb, ltb, leb}
-use lib.IntN.{ℤ, pos, negsuc, _+ℤ_}
+use lib.Dec.{eqb, ltb}
+use lib.IntN.{ℤ, pos, negsuc}
 use lib.ListN.{length, getD}
 use lib.Seq.{ext-getD}
-use lib.Signed.{leZ, _≤ℤ_, _<ℤ_}
-use Rattle.std.proofs.shelf.Lists.{getD-append-left, getD-push, getD-map, length-push, length-map}
+use Rattle.std.proofs.shelf.Lists.{getD-append-left, getD-push, getD-map, length-map}
 use Rattle.std.proofs.shelf.Signed.{ints}
-use Rattle.std.proofs.shelf.Tests.{cases-lt, cond-true, cond-false, lt-ltb, le-ltb, le-leb}
+use Rattle.std.proofs.shelf.Tests.{cases-lt, cond-true, cond-false, lt-ltb, le-ltb}
 use Rattle.records.specs.Write.{padded}
 use Rattle.market.specs.declared.entries.Basket.{Basket}
 use Rattle.market.specs.declared.entries.Buy.{Buy}
@@ -30,9 +29,9 @@ use Rattle.market.specs.Lines.{priceOk}
 use Rattle.market.specs.Market.{Market, windowAt}
 use Rattle.market.specs.Reading.{fitted, byteOf, smallOf, priceOf, field, quantitiesOf, windowOf, buyOf, basketOf, extraOf, entryOf, kindOf}
 use Rattle.market.specs.Services.{terms, serviceOf}
-use Rattle.market.specs.Wrong.{Between, Price}
+use Rattle.market.specs.Wrong.{Price}
 use Rattle.market.proofs.Deciding.{six}
-use Rattle.market.proofs.Fields.{dec-le, dec-between, six-at}
+use Rattle.market.proofs.Fields.{dec-between, six-at}
 
 -- a record's fields are those of the entry
 abbrev pub SpellsSix : List ℕ → List ℤ → ℕ → Type 0
@@ -115,7 +114,7 @@ permit-back : (b : Bool) → eqb (byteOf (pos (cond b 1 0))) 1 ≡ b
 permit-back true = refl
 permit-back false = refl
 
-products-six : (s : Service) → terms s .products ≤ 6
+pub products-six : (s : Service) → terms s .products ≤ 6
 products-six Response = omega arith
 products-six Balancing = omega arith
 products-six Quick = omega arith

@@ -1,16 +1,15 @@
 -- The entry that a record spells is written as that record.
 use mathlib.Core.Path.{_≡_, refl, sym, ap, _∙_}
-use mathlib.Core.Bool.{Bool, true, false, cond, not, _&&_, _||_}
-use mathlib.Core.List.{List, [], _∷_, _++_}
-use mathlib.Core.Logic.{_⊎_, inl, inr, ⊎-elim}
-use Prim.Native.Nat.{ℕ, zero, suc, _+_, _<_, _≤_}
+use mathlib.Core.Bool.{true, false, cond, not}
+use mathlib.Core.List.{List, [], _∷_}
+use Prim.Native.Nat.{ℕ, zero, suc, _+_, _≤_}
 use native.Mathlib.Numerals.{add-one}
 use native.Mathlib.Omega.{arith}
 use lib.Dec.{leb, eqb, ltb}
 use lib.IntN.{ℤ, pos, negsuc}
-use lib.ListN.{length, getD, take, drop}
+use lib.ListN.{length, take, drop}
 use Rattle.std.specs.declared.option.Option.{Option}
-use Rattle.std.specs.declared.option.Option.the-variants.{Some, None}
+use Rattle.std.specs.declared.option.Option.the-variants.{Some}
 use Rattle.std.proofs.shelf.Lists.{drop-more}
 use Rattle.std.proofs.shelf.Tests.{and-parts, or-parts, leb-false, leb-true, cond-true, lt-ltb}
 use Rattle.std.proofs.shelf.Ways.{tells}
@@ -18,7 +17,7 @@ use Rattle.records.specs.Read.{Content, fieldCount}
 use Rattle.records.specs.Write.{encode}
 use Rattle.market.specs.Files.{kinds, kindIn, spelt}
 use Rattle.market.specs.Lines.{between, priceOk, allZero}
-use Rattle.market.specs.Market.{Market, windowAt, basketAt}
+use Rattle.market.specs.Market.{Market, windowAt}
 use Rattle.market.specs.Reading.{fitted, byteOf, smallOf, priceOf, field, isQuantity, areQuantities, quantitiesOf, limits, limitsOf, entryOf, entryIn, kindOf, Kind, aWindow, aBuy, aBasket, aChild, aSubstitute}
 use Rattle.market.specs.Services.{terms, serviceOf}
 use Rattle.market.specs.Tests.{absent}

@@ -1,5 +1,4 @@
 -- What each fault is called: its number, and the layer that it belongs to.
-use Prim.Native.Nat.{ℕ}
 use Rattle.records.specs.Faults.{Code, code as record-code}
 use Rattle.market.specs.declared.faults.Fault.{Fault}
 use Rattle.market.specs.declared.faults.Fault.the-variants.{Record, OutsideLimits, Absent, TableFull, WindowOverlaps, LoopBroken}

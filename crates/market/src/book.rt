@@ -1,6 +1,5 @@
 // The open book. Its tables are never longer than their limits and have that room from the start; no entry in them breaks
 // the entry lines.
-ghost use mathlib.Core.Path.{_≡_};
 ghost use Prim.Native.Nat.{_<_, _≤_};
 ghost use Rattle.std.specs.Of.Vec.{vec-items, vec-len, vec-cap};
 ghost use Rattle.market.specs.Lines.{FitWindows, Apart, FitBuys, Bought, FitBaskets, Placed, Looped, FitExtras, Added};

@@ -1,6 +1,6 @@
 // What is wrong with an entry beside those before it.
 ghost use mathlib.Core.Path.{_≡_};
-ghost use Prim.Native.Nat.{_+_, _<_, _≤_};
+ghost use Prim.Native.Nat.{_+_, _<_};
 ghost use lib.ListN.{length};
 ghost use Rattle.market.specs.Lines.{Placed};
 ghost use Rattle.market.specs.Market.{windowIn, basketIn};

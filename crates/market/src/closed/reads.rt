@@ -40,7 +40,7 @@ impl ClosedMarket {
     pub fn window(&self, w: usize) -> Window
         ensures { λ r. ⌜ r ≡ windowAt (closedOf (now (self .entry))) w ⌝ }
     {
-        if w < self.book.windows.len() {
+        if w < self.window_count() {
             return self.book.windows[w];
         }
         Window {
@@ -53,7 +53,7 @@ impl ClosedMarket {
     pub fn buy(&self, i: usize) -> Buy
         ensures { λ r. ⌜ r ≡ buyAt (closedOf (now (self .entry))) i ⌝ }
     {
-        if i < self.book.buys.len() {
+        if i < self.buy_count() {
             return self.book.buys[i];
         }
         Buy {
@@ -70,7 +70,7 @@ impl ClosedMarket {
         ensures entered { λ r. ⌜ (b < length (closedOf (now (self .entry)) .baskets) → r ≡ basketAt (closedOf (now (self .entry))) b) ⌝ }
         ensures same { λ r. ⌜ SameBasket r (basketAt (closedOf (now (self .entry))) b) ⌝ }
     {
-        if b < self.book.baskets.len() {
+        if b < self.basket_count() {
             return self.book.baskets[b];
         }
         Basket {
@@ -87,7 +87,7 @@ impl ClosedMarket {
         ensures entered { λ r. ⌜ (k < length (closedOf (now (self .entry)) .extras) → r ≡ extraAt (closedOf (now (self .entry))) k) ⌝ }
         ensures same { λ r. ⌜ SameExtra r (extraAt (closedOf (now (self .entry))) k) ⌝ }
     {
-        if k < self.book.extras.len() {
+        if k < self.extra_count() {
             return self.book.extras[k];
         }
         Extra {

@@ -1,5 +1,4 @@
 use mathlib.Core.Path.{sym}
-use borrow.Author.Needs.{needs}
 use Rattle.numbers.proofs.Searches.{any-none, any-some, any-more}
 use Rattle.market.proofs.checks.broken.Needs as need
 

@@ -1,17 +1,15 @@
-use mathlib.Core.Path.{_≡_, refl, sym, ap, _∙_}
 use mathlib.Core.Bool.{true, false}
-use Prim.Native.Nat.{_<_}
 use native.Mathlib.Omega.{arith}
 use borrow.Author.Needs.{needs}
 use lib.ListN.{length}
-use Rattle.std.specs.Of.Vec.{vec-items, vec-len}
+use Rattle.std.specs.Of.Vec.{vec-items}
 use Rattle.std.proofs.shelf.Tests.{leb-false}
-use Rattle.market.specs.declared.entries.Entry.the-variants.{OfWindow, OfBuy, OfBasket, OfExtra}
+use Rattle.market.specs.declared.entries.Entry.the-variants.{OfWindow}
 use Rattle.market.specs.Market.{noWindow, noBuy, noBasket, noExtra}
-use Rattle.market.specs.Tests.{clash, breaks, buyAbsent, basketAbsent, extraAbsent}
-use Rattle.market.specs.Lines.{windowOk, buyOk, basketOk, extraOk}
+use Rattle.market.specs.Tests.{clash, buyAbsent, basketAbsent, extraAbsent}
+use Rattle.market.specs.Lines.{windowOk}
 use Rattle.market.specs.View.{marketOf}
-use Rattle.market.proofs.Pushing.{each-push, pairs-push, each-weaker, buy-stays, basket-stays, extra-stays, looped-stays, extra-stays-basket, admitted}
+use Rattle.market.proofs.Pushing.{each-push, pairs-push, each-weaker, buy-stays, basket-stays, extra-stays, looped-stays, admitted}
 use Rattle.market.proofs.book.Book.put_window.Needs as need
 
 pub ghost-self : need.ghost-self

@@ -1,4 +1,3 @@
-use mathlib.Core.Path.{sym}
 use Prim.Native.Nat.{_≤_}
 use native.Mathlib.Omega.{arith}
 use lib.ListN.{length}
@@ -8,5 +7,5 @@ use Rattle.market.proofs.closed.ClosedMarket.basket.Needs as need
 
 pub returns : need.returns
 returns c =
-    let past : length (vec-items (c .args .self .now .book .baskets)) ≤ c .args .b = omega (arith, c .len .ensures, c .args .self .now .book .baskets .ok .0, c .if-b-len .left) in
+    let past : length (vec-items (c .args .self .now .book .baskets)) ≤ c .args .b = omega (arith, c .basket-count .ensures, c .if-b-basket-count .left) in
     record { entered = λ l. absurd (omega (arith, past, l)); same = zero-basket (vec-items (c .args .self .now .book .baskets)) (c .args .b) past }

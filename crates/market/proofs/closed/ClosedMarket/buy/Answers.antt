@@ -9,5 +9,5 @@ use Rattle.market.proofs.closed.ClosedMarket.buy.Needs as need
 
 pub returns : need.returns
 returns c =
-    let past : length (vec-items (c .args .self .now .book .buys)) ≤ c .args .i = omega (arith, c .len .ensures, c .args .self .now .book .buys .ok .0, c .if-i-len .left) in
+    let past : length (vec-items (c .args .self .now .book .buys)) ≤ c .args .i = omega (arith, c .buy-count .ensures, c .if-i-buy-count .left) in
     sym (getD-past (vec-items (c .args .self .now .book .buys)) (c .args .i) noBuy past)

@@ -1,4 +1,3 @@
-use mathlib.Core.Path.{sym}
 use Prim.Native.Nat.{_≤_}
 use native.Mathlib.Omega.{arith}
 use lib.ListN.{length}
@@ -8,5 +7,5 @@ use Rattle.market.proofs.closed.ClosedMarket.extra.Needs as need
 
 pub returns : need.returns
 returns c =
-    let past : length (vec-items (c .args .self .now .book .extras)) ≤ c .args .k = omega (arith, c .len .ensures, c .args .self .now .book .extras .ok .0, c .if-k-len .left) in
+    let past : length (vec-items (c .args .self .now .book .extras)) ≤ c .args .k = omega (arith, c .extra-count .ensures, c .if-k-extra-count .left) in
     record { entered = λ l. absurd (omega (arith, past, l)); same = zero-extra (vec-items (c .args .self .now .book .extras)) (c .args .k) past }

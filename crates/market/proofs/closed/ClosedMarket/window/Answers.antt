@@ -9,5 +9,5 @@ use Rattle.market.proofs.closed.ClosedMarket.window.Needs as need
 
 pub returns : need.returns
 returns c =
-    let past : length (vec-items (c .args .self .now .book .windows)) ≤ c .args .w = omega (arith, c .len .ensures, c .args .self .now .book .windows .ok .0, c .if-w-len .left) in
+    let past : length (vec-items (c .args .self .now .book .windows)) ≤ c .args .w = omega (arith, c .window-count .ensures, c .if-w-window-count .left) in
     sym (getD-past (vec-items (c .args .self .now .book .windows)) (c .args .w) noWindow past)
