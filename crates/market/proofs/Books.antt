@@ -23,7 +23,7 @@ use Rattle.market.specs.declared.entries.Window.{Window}
 use Rattle.market.specs.Services.{terms}
 use Rattle.market.specs.Market.{Market, windowIn, basketIn, windowAt, buyAt, basketAt, extraAt, Share}
 use Rattle.market.specs.Tests.{clash, breaks, strays, buyAbsent, basketAbsent, extraAbsent}
-use Rattle.market.specs.Lines.{allZero, priceOk, sixOk, buyOk, basketOk, extraOk, FitWindows, Placed, Apart, Looped}
+use Rattle.market.specs.Lines.{allZero, priceOk, sixOk, buyOk, basketOk, extraOk, FitWindows, FitBuys, FitBaskets, FitExtras, Bought, Placed, Added, Apart, Looped}
 use Rattle.market.specs.Lawful.{GoodPrice, GoodQuantities, GoodBuy, GoodBasket, GoodExtra, GoodLoop, Lawful}
 use Rattle.market.specs.View.{marketOf, closedOf}
 use Rattle.market.proofs.Deciding.{dec-six, dec-leb, dec-clash, dec-breaks}
@@ -91,66 +91,92 @@ either back n all j k h l m = ⊎-elim (λ (e : j ≡ k). absurd (h e)) (λ x. �
 share-back : (v w : Window) → Share v w → Share w v
 share-back v w s = (s .0, s .2, s .1)
 
--- What a book keeps of its market.
-pub record Sound (m : Market) : Type 0 where
+-- The lines of a market, each as a test of every entry.
+pub record Lined (m : Market) : Type 0 where
   pub few-windows : length (m .windows) ≤ 32
+  pub few-buys : length (m .buys) ≤ 64
   pub few-baskets : length (m .baskets) ≤ 96
-  pub lasting : FitWindows (m .windows)
+  pub few-extras : length (m .extras) ≤ 96
+  pub spans : FitWindows (m .windows)
+  pub apart : Apart (m .windows)
+  pub buys : FitBuys (m .buys)
+  pub bought : Bought (m .windows) (m .buys)
+  pub baskets : FitBaskets (m .baskets)
   pub placed : Placed (m .windows) (m .baskets)
+  pub looped : Looped (m .windows) (m .baskets)
+  pub extras : FitExtras (m .extras)
+  pub added : Added (m .windows) (m .baskets) (m .extras)
 
-pub sound : (b : Book) → Sound (marketOf b)
-sound b = record { few-windows = omega (arith, b .few .0, b .windows .ok .0); few-baskets = omega (arith, b .few .2, b .baskets .ok .0); lasting = b .spans .0; placed = b .offers .1 }
+pub book-lined : (b : Book) → Lined (marketOf b)
+book-lined b =
+    record {
+      few-windows = omega (arith, b .few .0, b .windows .ok .0);
+      few-buys = omega (arith, b .few .1, b .buys .ok .0);
+      few-baskets = omega (arith, b .few .2, b .baskets .ok .0);
+      few-extras = omega (arith, b .few .3, b .extras .ok .0);
+      spans = b .spans .0;
+      apart = b .spans .1;
+      buys = b .asks .0;
+      bought = b .asks .1;
+      baskets = b .offers .0;
+      placed = b .offers .1;
+      looped = b .offers .2;
+      extras = b .adds .0;
+      added = b .adds .1;
+    }
 
-abbrev Apart2 : Market → ℕ → ℕ → Type 0
-Apart2 m j k = windowAt m j .service ≡ windowAt m k .service → Share (windowAt m j) (windowAt m k) → ⊥
+abbrev ApartAt : Market → ℕ → ℕ → Type 0
+ApartAt m j k = windowAt m j .service ≡ windowAt m k .service → Share (windowAt m j) (windowAt m k) → ⊥
 
-abbrev Loop2 : Market → ℕ → ℕ → Type 0
-Loop2 m j k = (basketAt m j .ring ≡ 0 → ⊥) → basketAt m j .ring ≡ basketAt m k .ring → GoodLoop m (basketAt m j) (basketAt m k)
+abbrev LoopAt : Market → ℕ → ℕ → Type 0
+LoopAt m j k = (basketAt m j .ring ≡ 0 → ⊥) → basketAt m j .ring ≡ basketAt m k .ring → GoodLoop m (basketAt m j) (basketAt m k)
 
-apart-back : (m : Market) (j k : ℕ) → Apart2 m k j → Apart2 m j k
+apart-back : (m : Market) (j k : ℕ) → ApartAt m k j → ApartAt m j k
 apart-back m j k h same share = h (sym same) (share-back (windowAt m j) (windowAt m k) share)
 
-loop-back : (m : Market) (j k : ℕ) → Loop2 m k j → Loop2 m j k
+loop-back : (m : Market) (j k : ℕ) → LoopAt m k j → LoopAt m j k
 loop-back m j k h some same =
     let g = h (λ z. some (same ∙ z)) (sym same) in
     record { unit = sym (g .unit); apart = λ s. g .apart (share-back (windowAt m (basketAt m j .window)) (windowAt m (basketAt m k .window)) s) }
 
-lasts : (m : Market) → Sound m → (k : ℕ) → k < length (m .windows) → 1 ≤ windowAt m k .length
-lasts m s k l = leb-true _ _ (and-parts (leb 1 (windowAt m k .length)) _ (s .lasting k l) .0)
+lasts : (m : Market) → Lined m → (k : ℕ) → k < length (m .windows) → 1 ≤ windowAt m k .length
+lasts m s k l = leb-true _ _ (and-parts (leb 1 (windowAt m k .length)) _ (s .spans k l) .0)
 
-there : (m : Market) → Sound m → (k : ℕ) → k < length (m .baskets) → basketAt m k .window < length (m .windows)
+there : (m : Market) → Lined m → (k : ℕ) → k < length (m .baskets) → basketAt m k .window < length (m .windows)
 there m s k l = leb-false _ _ (or-parts (leb (length (m .windows)) (basketAt m k .window)) _ (s .placed k l) .0)
 
-apart-later : (m : Market) → Sound m → Apart (m .windows) → (j k : ℕ) → j < k → k < length (m .windows) → Apart2 m j k
-apart-later m s all j k l h same share =
-    not-from-decides (clash (windowAt m j) (windowAt m k)) (dec-clash (windowAt m j) (windowAt m k) (lasts m s j (omega arith)) (lasts m s k h)) (any-not k j (λ j. clash (windowAt m j) (windowAt m k)) (all k h) l) (same, share)
+apart-later : (m : Market) → Lined m → (j k : ℕ) → j < k → k < length (m .windows) → ApartAt m j k
+apart-later m s j k l h same share =
+    not-from-decides (clash (windowAt m j) (windowAt m k)) (dec-clash (windowAt m j) (windowAt m k) (lasts m s j (omega arith)) (lasts m s k h)) (any-not k j (λ j. clash (windowAt m j) (windowAt m k)) (s .apart k h) l) (same, share)
 
-loop-later : (m : Market) → Sound m → Looped (m .windows) (m .baskets) → (j k : ℕ) → j < k → k < length (m .baskets) → Loop2 m j k
-loop-later m s all j k l h some same =
-    let no-one = not-from-decides (breaks (m .windows) (basketAt m j) (basketAt m k)) (dec-breaks (m .windows) (basketAt m j) (basketAt m k) (lasts m s _ (there m s j (omega arith))) (lasts m s _ (there m s k h))) (any-not k j (λ j. breaks (m .windows) (basketAt m j) (basketAt m k)) (all k h) l) in
+loop-later : (m : Market) → Lined m → (j k : ℕ) → j < k → k < length (m .baskets) → LoopAt m j k
+loop-later m s j k l h some same =
+    let no-one = not-from-decides (breaks (m .windows) (basketAt m j) (basketAt m k)) (dec-breaks (m .windows) (basketAt m j) (basketAt m k) (lasts m s _ (there m s j (omega arith))) (lasts m s _ (there m s k h))) (any-not k j (λ j. breaks (m .windows) (basketAt m j) (basketAt m k)) (s .looped k h) l) in
     let ring : basketAt m k .ring ≡ 0 → ⊥ = λ z. some (same ∙ z) in
     record {
       unit = ⊎-elim (λ (e : basketAt m j .unit ≡ basketAt m k .unit). e) (λ (n : basketAt m j .unit ≡ basketAt m k .unit → ⊥). absurd (no-one (ring, (same, inl n)))) (cases-eq (basketAt m j .unit) (basketAt m k .unit));
       apart = λ share. no-one (ring, (same, inr share));
     }
 
--- No book holds entries that break the lines.
-pub book-lawful : (b : Book) → Lawful (marketOf b)
-book-lawful b =
-    let m = marketOf b in
-    let s = sound b in
+-- A market of which the tests hold keeps the lines.
+pub lined-lawful : (m : Market) → Lined m → Lawful m
+lined-lawful m s =
     record {
       few-windows = s .few-windows;
-      few-buys = omega (arith, b .few .1, b .buys .ok .0);
+      few-buys = s .few-buys;
       few-baskets = s .few-baskets;
-      few-extras = omega (arith, b .few .3, b .extras .ok .0);
-      windows = λ k l. record { some = lasts m s k l; within = leb-true _ _ (and-parts (leb 1 (windowAt m k .length)) _ (b .spans .0 k l) .1) };
-      apart = either {P = Apart2 m} (apart-back m) (length (m .windows)) (apart-later m s (b .spans .1));
-      buys = λ k l. good-buy m (buyAt m k) (b .asks .1 k l) (b .asks .0 k l);
-      baskets = λ k l. good-basket m (basketAt m k) (b .offers .1 k l) (b .offers .0 k l);
-      loops = either {P = Loop2 m} (loop-back m) (length (m .baskets)) (loop-later m s (b .offers .2));
-      extras = λ k l. good-extra m (extraAt m k) (b .adds .1 k l) (b .adds .0 k l);
+      few-extras = s .few-extras;
+      windows = λ k l. record { some = lasts m s k l; within = leb-true _ _ (and-parts (leb 1 (windowAt m k .length)) _ (s .spans k l) .1) };
+      apart = either {P = ApartAt m} (apart-back m) (length (m .windows)) (apart-later m s);
+      buys = λ k l. good-buy m (buyAt m k) (s .bought k l) (s .buys k l);
+      baskets = λ k l. good-basket m (basketAt m k) (s .placed k l) (s .baskets k l);
+      loops = either {P = LoopAt m} (loop-back m) (length (m .baskets)) (loop-later m s);
+      extras = λ k l. good-extra m (extraAt m k) (s .added k l) (s .extras k l);
     }
+
+-- No book holds entries that break the lines.
+pub book-lawful : (b : Book) → Lawful (marketOf b)
+book-lawful b = lined-lawful (marketOf b) (book-lined b)
 
 pub closed-lawful : (c : ClosedMarket) → Lawful (closedOf c)
 closed-lawful c = book-lawful (c .book)

@@ -28,7 +28,7 @@ use Rattle.market.specs.Reading.{byteOf, priceOf, field, areQuantities, quanti
 use Rattle.market.specs.Services.{terms}
 use Rattle.market.specs.Tests.{clash, breaks, unfit, absent, full, overlapping, breaking, first, fault}
 use Rattle.market.specs.Wrong.{Names, Disallowed, Missing, Full, Overlaps, Breaks, Beside, Has, number, Faulty}
-use Rattle.market.proofs.Books.{Sound}
+use Rattle.market.proofs.Books.{Lined}
 use Rattle.market.proofs.Deciding.{dec-leb, dec-clash, dec-breaks}
 use Rattle.market.proofs.Fields.{dec-limits, dec-names, dec-at, dec-unfit, dec-price}
 use Rattle.market.proofs.Fitting.{fits, read-ok, read-err}
@@ -71,9 +71,9 @@ module _ (m : Market) (few-windows : length (m .windows) ≤ 255) (few-baskets :
   dec-full aChild = dec-leb 96 (length (m .extras))
   dec-full aSubstitute = dec-leb 96 (length (m .extras))
 
-module _ (m : Market) (sound : Sound m) (zs : List ℤ) where
+module _ (m : Market) (lined : Lined m) (zs : List ℤ) where
   long : (w : ℕ) → w < length (m .windows) → 1 ≤ windowAt m w .length
-  long w l = leb-true _ _ (and-parts (leb 1 (windowAt m w .length)) _ (sound .lasting w l) .0)
+  long w l = leb-true _ _ (and-parts (leb 1 (windowAt m w .length)) _ (lined .spans w l) .0)
 
   dec-overlaps : (k : Kind) → limitsOf k zs ≡ true → Decides (overlapping m (entryOf k zs)) (Overlaps m k zs)
   dec-overlaps aWindow h =
@@ -89,7 +89,7 @@ module _ (m : Market) (sound : Sound m) (zs : List ℤ) where
   dec-broken aBuy h = never
   dec-broken aBasket h =
       any-decides-below (length (m .baskets)) (λ i. breaks (m .windows) (basketAt m i) (basketOf zs)) (λ i. (basketOf zs .ring ≡ 0 → ⊥) × Beside m (basketAt m i) (basketOf zs))
-      (λ i l. dec-breaks (m .windows) (basketAt m i) (basketOf zs) (long (basketAt m i .window) (leb-false _ _ (or-parts (leb (length (m .windows)) (basketAt m i .window)) _ (sound .placed i l) .0)))
+      (λ i l. dec-breaks (m .windows) (basketAt m i) (basketOf zs) (long (basketAt m i .window) (leb-false _ _ (or-parts (leb (length (m .windows)) (basketAt m i .window)) _ (lined .placed i l) .0)))
       (long (basketOf zs .window) (leb-false _ _ (or-parts (leb (length (m .windows)) (basketOf zs .window)) _ h .0))))
   dec-broken aChild h = never
   dec-broken aSubstitute h = never
@@ -120,10 +120,10 @@ says m k zs false false false true d6 d7 d8 d9 d10 =
     (d10 refl .0 refl, below m k zs 10 (λ _. d6) (λ _. not-from-decides false d7 refl) (λ _. not-from-decides false d8 refl) (λ _. not-from-decides false d9 refl) (λ h. absurd (omega arith)))
 says m k zs false false false false d6 d7 d8 d9 d10 = tt
 
-judged-says : (m : Market) → Sound m → (k : Kind) (zs : List ℤ) → limitsOf k zs ≡ true → Says m k zs (fault m (entryOf k zs))
-judged-says m sound k zs h =
+judged-says : (m : Market) → Lined m → (k : Kind) (zs : List ℤ) → limitsOf k zs ≡ true → Says m k zs (fault m (entryOf k zs))
+judged-says m lined k zs h =
     says m k zs (absent m (entryOf k zs)) (full m (entryOf k zs)) (overlapping m (entryOf k zs)) (breaking m (entryOf k zs))
-    (λ out. out (dec-limits k zs .0 h)) (dec-missing m (omega (arith, sound .few-windows)) (omega (arith, sound .few-baskets)) zs k h) (dec-full m (omega (arith, sound .few-windows)) (omega (arith, sound .few-baskets)) zs k) (dec-overlaps m sound zs k h) (dec-broken m sound zs k)
+    (λ out. out (dec-limits k zs .0 h)) (dec-missing m (omega (arith, lined .few-windows)) (omega (arith, lined .few-baskets)) zs k h) (dec-full m (omega (arith, lined .few-windows)) (omega (arith, lined .few-baskets)) zs k) (dec-overlaps m lined zs k h) (dec-broken m lined zs k)
 
 pub faulty-outside : (m : Market) (e : Content) → limits e ≡ false → Faulty m e OutsideLimits
 faulty-outside m e h =
@@ -132,11 +132,11 @@ faulty-outside m e h =
       below m k (e .fields) 6 (λ l. absurd (omega arith)) (λ l. absurd (omega arith)) (λ l. absurd (omega arith)) (λ l. absurd (omega arith)) (λ l. absurd (omega arith)),
     )
 
-pub faulty-some : (m : Market) → Sound m → (e : Content) (f : Fault) → limits e ≡ true → fault m (entryIn e) ≡ Some f → Faulty m e f
-faulty-some m sound e f h is = rw is at (judged-says m sound (kindOf (e .kind)) (e .fields) h)
+pub faulty-some : (m : Market) → Lined m → (e : Content) (f : Fault) → limits e ≡ true → fault m (entryIn e) ≡ Some f → Faulty m e f
+faulty-some m lined e f h is = rw is at (judged-says m lined (kindOf (e .kind)) (e .fields) h)
 
 -- what a reading and the tests tell of a record
-module _ (m : Market) (sound : Sound m) (e : Content) where
+module _ (m : Market) (lined : Lined m) (e : Content) where
   pub took-outside : (f : Fault) → Err f ≡ readEntry e → Faulty m e f
   took-outside f h =
       let p = read-err e f (sym h) in
@@ -145,7 +145,7 @@ module _ (m : Market) (sound : Sound m) (e : Content) where
   pub took-faulty : (i : Entry) (f : Fault) → Ok i ≡ readEntry e → Some f ≡ fault m i → Faulty m e f
   took-faulty i f h k =
       let p = read-ok e i (sym h) in
-      faulty-some m sound e f (p .0) (ap (fault m) (p .1) ∙ sym k)
+      faulty-some m lined e f (p .0) (ap (fault m) (p .1) ∙ sym k)
 
 pub took-admits : (m : Market) (e : Content) (i : Entry) → Ok i ≡ readEntry e → None ≡ fault m i → (limits e ≡ true) × (absent m (entryIn e) ≡ false) × (i ≡ entryIn e)
 took-admits m e i h k =

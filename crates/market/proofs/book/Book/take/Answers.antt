@@ -4,7 +4,7 @@ use Rattle.std.proofs.shelf.Results.{err-from-errBy}
 use Rattle.records.specs.Read.{content}
 use Rattle.market.specs.Market.{put}
 use Rattle.market.specs.View.{marketOf}
-use Rattle.market.proofs.Books.{sound}
+use Rattle.market.proofs.Books.{book-lined}
 use Rattle.market.proofs.Faulting.{took-outside, took-faulty, took-admits}
 use Rattle.market.proofs.Fitting.{read-entry-fits}
 use Rattle.market.proofs.book.Book.take.Needs as need
@@ -15,10 +15,10 @@ put-requires c κs = (read-entry-fits (content (c .args .given .now)) (c .in-Con
 pub returns-in-Break-entry : need.returns-in-Break-entry
 returns-in-Break-entry c =
     let p = err-from-errBy (c .from-residual .result) (c .from-residual .ensures .1) in
-    rw (p .1, p .2) (took-outside (marketOf (c .args .self .now)) (sound (c .args .self .now)) (content (c .args .given .now)) (c .in-Break-entry .field-0 .0) (c .in-Break-entry .ensures tt), refl)
+    rw (p .1, p .2) (took-outside (marketOf (c .args .self .now)) (book-lined (c .args .self .now)) (content (c .args .given .now)) (c .in-Break-entry .field-0 .0) (c .in-Break-entry .ensures tt), refl)
 
 pub returns-in-Some : need.returns-in-Some
-returns-in-Some c = (took-faulty (marketOf (c .args .self .now)) (sound (c .args .self .now)) (content (c .args .given .now)) (c .in-Continue-entry .entry) (c .in-Some .fault) (c .in-Continue-entry .ensures tt) (c .in-Some .ensures tt), refl)
+returns-in-Some c = (took-faulty (marketOf (c .args .self .now)) (book-lined (c .args .self .now)) (content (c .args .given .now)) (c .in-Continue-entry .entry) (c .in-Some .fault) (c .in-Continue-entry .ensures tt) (c .in-Some .ensures tt), refl)
 
 pub returns : need.returns
 returns c =
