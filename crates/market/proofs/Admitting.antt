@@ -26,11 +26,12 @@ use Rattle.market.specs.declared.faults.Fault.the-variants.{Record, OutsideLim
 use Rattle.market.specs.Files.{kindIn, roleKind}
 use Rattle.market.specs.Lawful.{GoodPrice, GoodQuantities, GoodWindow, GoodBuy, GoodBasket, GoodExtra, GoodLoop, Lawful}
 use Rattle.market.specs.Market.{Market, noWindow, noBuy, noBasket, noExtra, windowAt, basketAt, Share, put}
-use Rattle.market.specs.Reading.{field, windowOf, basketOf, kindOf, aChild, aSubstitute}
+use Rattle.market.specs.Reading.{field, kindOf, aChild, aSubstitute}
 use Rattle.market.specs.Services.{terms}
 use Rattle.market.specs.Wrong.{Between, Price, Quantities, Disallowed, Has}
-use Rattle.market.proofs.Fields.{dec-le, same-pos}
-use Rattle.market.proofs.Returning.{Spells, SpellsSix, Good, price-within, window-back, basket-back}
+use Rattle.market.proofs.Deciding.{same-service}
+use Rattle.market.proofs.Fields.{dec-le, same-pos, fields-cover}
+use Rattle.market.proofs.Returning.{Spells, SpellsSix, Good, price-within}
 
 -- the lines on the last entry of a market
 pub good-last : (m : Market) (e : Entry) → Lawful (put m e) → Good m e
@@ -117,10 +118,11 @@ module _ (m : Market) (w : Window) (zs : List ℤ) (l : Lawful (put m (OfWindow 
       let longer = length-push ws w in
       let old : getD (ws ++ w ∷ []) k noWindow ≡ windowAt m k = getD-append-left ws (w ∷ []) noWindow k (x .1) in
       let new : getD (ws ++ w ∷ []) n noWindow ≡ w = getD-push ws w noWindow n refl in
-      let back : windowOf zs ≡ w = window-back w zs (good-last m (OfWindow w) l) s in
-      let to : windowOf zs ≡ getD (ws ++ w ∷ []) n noWindow = back ∙ sym new in
-      l .apart k n (λ e. omega (arith, x .1)) (omega (arith, x .1)) (omega arith) (ap (λ v. v .service) old ∙ x .2 .0 ∙ ap (λ v. v .service) to)
-      (subst (λ (v : Window). Share v (getD (ws ++ w ∷ []) n noWindow)) (sym old) (subst (λ (v : Window). Share (windowAt m k) v) to (x .2 .1)))
+      let same : windowAt m k .service ≡ w .service = same-service _ _ (same-pos _ _ (x .2 .0 ∙ s .0)) in
+      let hour = x .2 .1 .0 in
+      let share : Share (windowAt m k) w = (hour, x .2 .1 .1, fields-cover w zs (s .1) (s .2) hour (x .2 .1 .2)) in
+      l .apart k n (λ e. omega (arith, x .1)) (omega (arith, x .1)) (omega arith) (ap (λ v. v .service) old ∙ same ∙ ap (λ v. v .service) (sym new))
+      (subst (λ (v : Window). Share v (getD (ws ++ w ∷ []) n noWindow)) (sym old) (subst (λ (v : Window). Share (windowAt m k) v) (sym new) share))
   window-free LoopBroken x = x
 
 -- nor of a buy
@@ -186,10 +188,12 @@ module _ (m : Market) (b : Basket) (zs : List ℤ) (l : Lawful (put m (OfBasket 
       let longer = length-push bs b in
       let old : getD (bs ++ b ∷ []) k noBasket ≡ basketAt m k = getD-append-left bs (b ∷ []) noBasket k (x .1) in
       let new : getD (bs ++ b ∷ []) n noBasket ≡ b = getD-push bs b noBasket n refl in
-      let back : basketOf zs ≡ b = basket-back m (l .few-windows) b zs (good-last m (OfBasket b) l) s in
-      let pair = loop-at (put m (OfBasket b)) (getD (bs ++ b ∷ []) k noBasket) (getD (bs ++ b ∷ []) n noBasket) (basketAt m k) (basketOf zs) old (new ∙ sym back) (l .loops k n (λ e. omega (arith, x .1)) (omega (arith, x .1)) (omega arith)) in
-      let good = pair (λ z. x .2 .0 (sym (x .2 .1 .0) ∙ z)) (x .2 .1 .0) in
-      ⊎-elim (λ other. other (good .unit)) (λ share. good .apart share) (x .2 .1 .1)
+      let pair = loop-at (put m (OfBasket b)) (getD (bs ++ b ∷ []) k noBasket) (getD (bs ++ b ∷ []) n noBasket) (basketAt m k) b old new (l .loops k n (λ e. omega (arith, x .1)) (omega (arith, x .1)) (omega arith)) in
+      let same : basketAt m k .ring ≡ b .ring = same-pos _ _ (x .2 .1 .0 ∙ s .2) in
+      let good = pair (λ z. x .2 .0 (s .2 ∙ ap pos (sym same ∙ z))) same in
+      ⊎-elim (λ other. other (ap pos (good .unit) ∙ sym (s .0)))
+      (λ share. good .apart (subst (λ (v : ℕ). Share (windowAt m (basketAt m k .window)) (windowAt m v)) (same-pos (share .0) (b .window) (sym (share .1) ∙ s .1)) (share .2)))
+      (x .2 .1 .1)
 
 -- nor of a child or a substitute
 module _ (m : Market) (e : Extra) (zs : List ℤ) (l : Lawful (put m (OfExtra e))) (s : Spells (OfExtra e) zs) where

@@ -44,7 +44,7 @@ dec-six f P each = (
       and-from (f 0) _ (at 0 (omega arith)) (and-from (f 1) _ (at 1 (omega arith)) (and-from (f 2) _ (at 2 (omega arith)) (and-from (f 3) _ (at 3 (omega arith)) (and-from (f 4) (f 5) (at 4 (omega arith)) (at 5 (omega arith))))))),
 )
 
-same-service : (a b : Service) → terms a .number ≡ terms b .number → a ≡ b
+pub same-service : (a b : Service) → terms a .number ≡ terms b .number → a ≡ b
 same-service Response Response e = refl
 same-service Response Balancing e = absurd (omega arith)
 same-service Response Quick e = absurd (omega arith)

@@ -1,9 +1,9 @@
 -- The tests of a record's fields decide what they are named for.
 use mathlib.Core.Path.{_≡_, refl, sym, ap, _∙_}
-use mathlib.Core.Bool.{Bool, true, false, not, _&&_, _||_}
+use mathlib.Core.Bool.{Bool, true, false, cond, not, _&&_, _||_}
 use mathlib.Core.List.{List}
 use mathlib.Core.Logic.{_⊎_, inl, inr, ⊎-elim}
-use Prim.Native.Nat.{ℕ, _+_, _<_, _≤_}
+use Prim.Native.Nat.{ℕ, zero, suc, _+_, _<_, _≤_}
 use native.Mathlib.Nat.{add-zero}
 use native.Mathlib.Omega.{arith}
 use lib.Dec.{eqb, ltb, leb}
@@ -12,15 +12,18 @@ use lib.ListN.{getD}
 use lib.Signed.{leZ, ltZ, _≤ℤ_, _<ℤ_}
 use Rattle.std.specs.Orderings.{Decides}
 use Rattle.std.proofs.shelf.Signed.{ints}
-use Rattle.std.proofs.shelf.Tests.{and-parts, le-leb, leb-true, leb-false, cond-true, both-ways, cases-lt}
+use Rattle.std.proofs.shelf.Tests.{lt-ltb, ltb-true, and-parts, le-leb, leb-true, leb-false, cond-true, both-ways, cases-lt}
 use Rattle.std.proofs.shelf.Ways.{tells, decides-and, decides-or, decides-not, decides-ltb, decides-at}
 use Rattle.numbers.proofs.Searches.{any-decides-below}
 use Rattle.market.specs.declared.entries.Service.{Service}
-use Rattle.market.specs.Services.{terms}
-use Rattle.market.specs.Lines.{between}
-use Rattle.market.specs.Reading.{byteOf, smallOf, priceOf, field, isQuantity, quantitiesOf, limitsOf, windowLimits, buyLimits, basketLimits, extraLimits, Kind, aWindow, aBuy, aBasket, aChild, aSubstitute}
+use Rattle.market.specs.declared.entries.Service.the-variants.{Response, Balancing, Quick, Slow}
+use Rattle.market.specs.declared.entries.Window.{Window}
+use Rattle.market.specs.Market.{Covers}
+use Rattle.market.specs.Services.{terms, serviceOf}
+use Rattle.market.specs.Lines.{between, priceOk}
+use Rattle.market.specs.Reading.{fitted, byteOf, smallOf, priceOf, field, isQuantity, quantitiesOf, limitsOf, windowLimits, buyLimits, basketLimits, extraLimits, Kind, aWindow, aBuy, aBasket, aChild, aSubstitute}
 use Rattle.market.specs.Tests.{strays, unfit}
-use Rattle.market.specs.Wrong.{Between, Within, Names, Disallowed}
+use Rattle.market.specs.Wrong.{CoversFields, Between, Within, Names, Disallowed}
 use Rattle.market.proofs.Deciding.{dec-leb, dec-six, six}
 
 pub dec-le : (a b : ℤ) → Decides (leZ a b) (a ≤ℤ b)
@@ -126,3 +129,47 @@ dec-unfit s zs i j h =
 
 pub dec-price : (z floor : ℤ) → between (negsuc 99998) (pos 99999) z ≡ true → Decides (ltZ (priceOf z) floor) (z <ℤ floor)
 dec-price z floor h = decides-at _ _ (ap (λ y. ltZ y floor) (cond-true (between (negsuc 99998) (pos 99999) z) z (pos 0) h)) (dec-lt z floor)
+
+pub products-few : (s : Service) → terms s .products ≤ 255
+products-few Response = omega arith
+products-few Balancing = omega arith
+products-few Quick = omega arith
+products-few Slow = omega arith
+
+-- a number within its limits is the one that is read
+pub written : (low high top : ℕ) (z : ℤ) → high ≤ top → between (pos low) (pos high) z ≡ true → z ≡ pos (fitted top z)
+written low high top (pos n) h e = ap pos (grind (arith, tells))
+written low high top (negsuc n) h e = grind arith
+
+pub written-price : (z : ℤ) → priceOk z ≡ true → z ≡ priceOf z
+written-price z h = sym (cond-true (priceOk z) z (pos 0) h)
+
+numbered : (n : ℕ) → 1 ≤ n → n ≤ 4 → terms (serviceOf n) .number ≡ n
+numbered zero h k = absurd (omega arith)
+numbered (suc zero) h k = refl
+numbered (suc (suc zero)) h k = refl
+numbered (suc (suc (suc zero))) h k = refl
+numbered (suc (suc (suc (suc zero)))) h k = refl
+numbered (suc (suc (suc (suc (suc n))))) h k = absurd (omega arith)
+
+pub service-written : (z : ℤ) → between (pos 1) (pos 4) z ≡ true → z ≡ pos (terms (serviceOf (byteOf z)) .number)
+service-written (pos n) h =
+    let p = and-parts (leb 1 n) (leb n 4) h in
+    let s : byteOf (pos n) ≡ n = cond-true (ltb n 255) n 255 (lt-ltb n 255 (omega (arith, leb-true n 4 (p .1)))) in
+    ap pos (sym (rw s (numbered n (leb-true 1 n (p .0)) (leb-true n 4 (p .1)))))
+service-written (negsuc n) h = grind arith
+
+pub permit-written : (z : ℤ) → between (pos 0) (pos 1) z ≡ true → z ≡ pos (cond (eqb (byteOf z) 1) 1 0)
+permit-written (pos zero) h = refl
+permit-written (pos (suc zero)) h = refl
+permit-written (pos (suc (suc n))) h = grind (arith, tells)
+permit-written (negsuc n) h = grind arith
+
+-- the half hours of a window, by its numbers and by its record's
+pub covers-fields : (w : Window) (zs : List ℤ) → field zs 1 ≡ pos (w .start) → field zs 2 ≡ pos (w .length) → (h : ℕ) → Covers w h → CoversFields zs h
+covers-fields w zs a b h c = rw (a, b) (dec-le (pos (w .start)) (pos h) .0 (le-leb (w .start) h (c .0)), dec-lt (pos h) (pos (w .start + w .length)) .0 (lt-ltb h (w .start + w .length) (c .1)))
+
+pub fields-cover : (w : Window) (zs : List ℤ) → field zs 1 ≡ pos (w .start) → field zs 2 ≡ pos (w .length) → (h : ℕ) → CoversFields zs h → Covers w h
+fields-cover w zs a b h c =
+    let d : (pos (w .start) ≤ℤ pos h) × (pos h <ℤ (pos (w .start) +ℤ pos (w .length))) = rw (a, b) at c in
+    (leb-true (w .start) h (dec-le (pos (w .start)) (pos h) .1 (d .0)), ltb-true h (w .start + w .length) (dec-lt (pos h) (pos (w .start + w .length)) .1 (d .1)))

@@ -125,7 +125,7 @@ quantities-back s qs zs i g h =
     ext-getD 0 (quantitiesOf zs i) qs (sym (g .six))
     (λ p l. six-at zs i p l ∙ ap smallOf (h p l) ∙ fit-back 65535 (getD qs p 0) (omega (arith, g .most p l)))
 
-pub window-back : (w : Window) (zs : List ℤ) → GoodWindow w → Spells (OfWindow w) zs → windowOf zs ≡ w
+window-back : (w : Window) (zs : List ℤ) → GoodWindow w → Spells (OfWindow w) zs → windowOf zs ≡ w
 window-back w zs g s =
     let a = ap (λ z. serviceOf (byteOf z)) (s .0) ∙ service-back (w .service) in
     let b = ap byteOf (s .1) ∙ fit-back 255 (w .start) (omega (arith, g .within)) in
@@ -142,7 +142,7 @@ buy-back m few e zs g s =
     let h = ap (λ z. eqb (byteOf z) 1) (s .5) ∙ permit-back (e .permit) in
     λ i. record { window = a i; product = b i; quantity = c i; price = d i; family = f i; permit = h i }
 
-pub basket-back : (m : Market) → length (m .windows) ≤ 32 → (b : Basket) (zs : List ℤ) → GoodBasket m b → Spells (OfBasket b) zs → basketOf zs ≡ b
+basket-back : (m : Market) → length (m .windows) ≤ 32 → (b : Basket) (zs : List ℤ) → GoodBasket m b → Spells (OfBasket b) zs → basketOf zs ≡ b
 basket-back m few b zs g s =
     let u = ap smallOf (s .0) ∙ fit-back 65535 (b .unit) (g .unit-most) in
     let w = ap byteOf (s .1) ∙ fit-back 255 (b .window) (omega (arith, g .window)) in

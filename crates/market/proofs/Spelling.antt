@@ -1,56 +1,26 @@
 -- The entry that a record spells is written as that record.
 use mathlib.Core.Path.{_≡_, refl, sym, ap, _∙_}
-use mathlib.Core.Bool.{true, false, cond, not}
+use mathlib.Core.Bool.{true, false, not}
 use mathlib.Core.List.{List, [], _∷_}
 use Prim.Native.Nat.{ℕ, zero, suc, _+_, _≤_}
 use native.Mathlib.Numerals.{add-one}
 use native.Mathlib.Omega.{arith}
-use lib.Dec.{leb, eqb, ltb}
-use lib.IntN.{ℤ, pos, negsuc}
+use lib.Dec.{leb}
+use lib.IntN.{ℤ, pos}
 use lib.ListN.{length, take, drop}
 use Rattle.std.specs.declared.option.Option.{Option}
 use Rattle.std.specs.declared.option.Option.the-variants.{Some}
 use Rattle.std.proofs.shelf.Lists.{drop-more}
-use Rattle.std.proofs.shelf.Tests.{and-parts, or-parts, leb-false, leb-true, cond-true, lt-ltb}
-use Rattle.std.proofs.shelf.Ways.{tells}
+use Rattle.std.proofs.shelf.Tests.{and-parts, or-parts, leb-false}
 use Rattle.records.specs.Read.{Content, fieldCount}
 use Rattle.records.specs.Write.{encode}
 use Rattle.market.specs.Files.{kinds, kindIn, spelt}
 use Rattle.market.specs.Lines.{between, priceOk, allZero}
 use Rattle.market.specs.Market.{Market, windowAt}
-use Rattle.market.specs.Reading.{fitted, byteOf, smallOf, priceOf, field, isQuantity, areQuantities, quantitiesOf, limits, limitsOf, entryOf, entryIn, kindOf, Kind, aWindow, aBuy, aBasket, aChild, aSubstitute}
-use Rattle.market.specs.Services.{terms, serviceOf}
+use Rattle.market.specs.Reading.{byteOf, smallOf, field, isQuantity, areQuantities, quantitiesOf, limits, limitsOf, entryOf, entryIn, kindOf, Kind, aWindow, aBuy, aBasket, aChild, aSubstitute}
+use Rattle.market.specs.Services.{terms}
 use Rattle.market.specs.Tests.{absent}
-use Rattle.market.proofs.Faulting.{products-few}
-use Rattle.market.proofs.Fields.{names-byte}
-
-written : (low high top : ℕ) (z : ℤ) → high ≤ top → between (pos low) (pos high) z ≡ true → z ≡ pos (fitted top z)
-written low high top (pos n) h e = ap pos (grind (arith, tells))
-written low high top (negsuc n) h e = grind arith
-
-written-price : (z : ℤ) → priceOk z ≡ true → z ≡ priceOf z
-written-price z h = sym (cond-true (priceOk z) z (pos 0) h)
-
-numbered : (n : ℕ) → 1 ≤ n → n ≤ 4 → terms (serviceOf n) .number ≡ n
-numbered zero h k = absurd (omega arith)
-numbered (suc zero) h k = refl
-numbered (suc (suc zero)) h k = refl
-numbered (suc (suc (suc zero))) h k = refl
-numbered (suc (suc (suc (suc zero)))) h k = refl
-numbered (suc (suc (suc (suc (suc n))))) h k = absurd (omega arith)
-
-service-written : (z : ℤ) → between (pos 1) (pos 4) z ≡ true → z ≡ pos (terms (serviceOf (byteOf z)) .number)
-service-written (pos n) h =
-    let p = and-parts (leb 1 n) (leb n 4) h in
-    let s : byteOf (pos n) ≡ n = cond-true (ltb n 255) n 255 (lt-ltb n 255 (omega (arith, leb-true n 4 (p .1)))) in
-    ap pos (sym (rw s (numbered n (leb-true 1 n (p .0)) (leb-true n 4 (p .1)))))
-service-written (negsuc n) h = grind arith
-
-permit-written : (z : ℤ) → between (pos 0) (pos 1) z ≡ true → z ≡ pos (cond (eqb (byteOf z) 1) 1 0)
-permit-written (pos zero) h = refl
-permit-written (pos (suc zero)) h = refl
-permit-written (pos (suc (suc n))) h = grind (arith, tells)
-permit-written (negsuc n) h = grind arith
+use Rattle.market.proofs.Fields.{names-byte, products-few, written, written-price, service-written, permit-written}
 
 -- the number of a kind, and how many fields it has
 abbrev numberOf : Kind → ℕ

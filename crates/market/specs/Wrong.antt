@@ -13,8 +13,8 @@ use Rattle.market.specs.declared.entries.Basket.{Basket}
 use Rattle.market.specs.declared.faults.Fault.{Fault}
 use Rattle.market.specs.declared.faults.Fault.the-variants.{Record, OutsideLimits, Absent, TableFull, WindowOverlaps, LoopBroken}
 use Rattle.market.specs.Faults.{code}
-use Rattle.market.specs.Market.{Market, windowAt, basketAt, Share}
-use Rattle.market.specs.Reading.{Kind, aWindow, aBuy, aBasket, aChild, aSubstitute, kindOf, field, windowOf, basketOf}
+use Rattle.market.specs.Market.{Market, windowAt, basketAt, Covers, Share}
+use Rattle.market.specs.Reading.{Kind, aWindow, aBuy, aBasket, aChild, aSubstitute, kindOf, field}
 use Rattle.market.specs.Services.{terms}
 
 abbrev pub Between : ℤ → ℤ → ℤ → Type 0
@@ -67,23 +67,27 @@ Full m aBasket = 96 ≤ length (m .baskets)
 Full m aChild = 96 ≤ length (m .extras)
 Full m aSubstitute = 96 ≤ length (m .extras)
 
+-- The half hour h is one of those that a window's record names.
+abbrev pub CoversFields : List ℤ → ℕ → Type 0
+CoversFields zs h = (field zs 1 ≤ℤ pos h) × (pos h <ℤ (field zs 1 +ℤ field zs 2))
+
 -- A window has a half hour of one of its service.
 abbrev pub Overlaps : Market → Kind → List ℤ → Type 0
-Overlaps m aWindow zs = (k : ℕ) × (k < length (m .windows)) × ((windowAt m k .service ≡ windowOf zs .service) × Share (windowAt m k) (windowOf zs))
+Overlaps m aWindow zs = (k : ℕ) × (k < length (m .windows)) × ((pos (terms (windowAt m k .service) .number) ≡ field zs 0) × ((h : ℕ) × Covers (windowAt m k) h × CoversFields zs h))
 Overlaps m aBuy zs = ⊥
 Overlaps m aBasket zs = ⊥
 Overlaps m aChild zs = ⊥
 Overlaps m aSubstitute zs = ⊥
 
--- Two baskets have one loop number, and two units or a half hour in common.
-abbrev pub Beside : Market → Basket → Basket → Type 0
-Beside m a b = (a .ring ≡ b .ring) × ((a .unit ≡ b .unit → ⊥) ⊎ Share (windowAt m (a .window)) (windowAt m (b .window)))
+-- The basket b has another unit than the record, or shares a half hour with the window that it names.
+abbrev pub Beside : Market → Basket → List ℤ → Type 0
+Beside m b zs = (pos (b .unit) ≡ field zs 0 → ⊥) ⊎ ((w : ℕ) × (field zs 1 ≡ pos w) × Share (windowAt m (b .window)) (windowAt m w))
 
 -- A basket of a loop breaks the loop with one before it.
 abbrev pub Breaks : Market → Kind → List ℤ → Type 0
 Breaks m aWindow zs = ⊥
 Breaks m aBuy zs = ⊥
-Breaks m aBasket zs = (k : ℕ) × (k < length (m .baskets)) × ((basketOf zs .ring ≡ 0 → ⊥) × Beside m (basketAt m k) (basketOf zs))
+Breaks m aBasket zs = (k : ℕ) × (k < length (m .baskets)) × ((field zs 2 ≡ pos 0 → ⊥) × ((pos (basketAt m k .ring) ≡ field zs 2) × Beside m (basketAt m k) zs))
 Breaks m aChild zs = ⊥
 Breaks m aSubstitute zs = ⊥
 
