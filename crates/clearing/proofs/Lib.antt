@@ -3,3 +3,4 @@ pub mod Spelling
 pub mod Numbers
 pub mod Lists
 pub mod Single
+pub mod Judging

@@ -1,3 +1,4 @@
 pub mod Faults
 pub mod Marks
 pub mod Files
+pub mod Verdicts

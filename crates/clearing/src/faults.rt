@@ -1,10 +1,9 @@
 // Why a clearing file is refused.
 ghost use mathlib.Core.Path.{_≡_};
 ghost use Rattle.clearing.specs.Faults.{code, fromRecords};
-use records::FaultDebug as _;
-use records::FaultPartialEq as _;
+use rules::Rule;
 
-#[derive(Clone, Copy, Debug, PartialEq)]
+#[derive(Clone, Copy)]
 pub enum Fault {
     // a fault of the file's records
     Record(records::Fault),
@@ -14,12 +13,14 @@ pub enum Fault {
     OutsideLimits,
     // a variable or a line that names nothing, or a price below the service's floor
     Absent,
+    // a rule that the clearing breaks
+    Broken(Rule),
     // the scratch has fewer than 448 numbers
     ScratchTooShort,
 }
 
 // What is wrong, and where.
-#[derive(Clone, Copy, Debug, PartialEq)]
+#[derive(Clone, Copy)]
 pub struct Refusal {
     pub fault: Fault,
     pub place: usize,
@@ -34,6 +35,7 @@ impl Fault {
             Fault::NotRising => 11,
             Fault::OutsideLimits => 6,
             Fault::Absent => 7,
+            Fault::Broken(rule) => rule.number(),
             Fault::ScratchTooShort => 26,
         }
     }
@@ -44,6 +46,7 @@ impl Fault {
         match self {
             Fault::Record(fault) => fault.layer(),
             Fault::NotRising | Fault::OutsideLimits | Fault::Absent => 2,
+            Fault::Broken(rule) => rule.layer(),
             Fault::ScratchTooShort => 5,
         }
     }

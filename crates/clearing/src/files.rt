@@ -28,7 +28,7 @@ const KINDS: [Kind; 2] = [
 ];
 
 // How many numbers a scratch has: 256 variables and 192 lines.
-const NUMBERS: usize = 448;
+pub(crate) const NUMBERS: usize = 448;
 
 fn clear(numbers: &mut [i32])
     requires { ⌜ length (now numbers) ≡ 448 ⌝ }
