@@ -11,6 +11,9 @@ use crate::fixing::Fixing;
 use crate::fixing::Held;
 use crate::programme::Programme;
 
+// The most variables that may be held.
+const MOST_HELD: usize = 64;
+
 // Where the variable is held, or how many are.
 fn place_of(row: &[Held], v: usize) -> usize
     ensures { λ r. ⌜ r ≡ place v (now (row .entry)) ⌝ }
@@ -58,7 +61,7 @@ impl<'a, P: Programme> Fixing<'a, P> {
             });
         }
         let at = place_of(&self.row[0..self.count], v);
-        if at == 64 {
+        if at == MOST_HELD {
             return Err(Refusal {
                 fault: Fault::TooDeep,
                 place: v,

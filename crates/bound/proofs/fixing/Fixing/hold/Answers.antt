@@ -22,7 +22,7 @@ index-self-at g c =
     let long : length (self .row) ≡ 64 = self .long in
     let few : self .count ≤ length (self .row) = omega (arith, self .few) in
     let found : at ≡ place (c .args .v) (take (self .count) (self .row)) = rw sub-zero at (c .place-of-at .ensures) in
-    let room : at < 64 = omega (arith, self .few, place-few (self .row) (self .count) h few at found, c .if-at-eq64 .left) in
+    let room : at < 64 = omega (arith, self .few, place-few (self .row) (self .count) h few at found, c .if-at-eq-MOST-HELD .left) in
     room
 
 pub offset-self-at : need.offset-self-at
@@ -33,7 +33,7 @@ offset-self-at g c =
     let long : length (self .row) ≡ 64 = self .long in
     let few : self .count ≤ length (self .row) = omega (arith, self .few) in
     let found : at ≡ place (c .args .v) (take (self .count) (self .row)) = rw sub-zero at (c .place-of-at .ensures) in
-    let room : at < 64 = omega (arith, self .few, place-few (self .row) (self .count) h few at found, c .if-at-eq64 .left) in
+    let room : at < 64 = omega (arith, self .few, place-few (self .row) (self .count) h few at found, c .if-at-eq-MOST-HELD .left) in
     search needs
 
 pub ghost-self : need.ghost-self
@@ -44,7 +44,7 @@ ghost-self g c =
     let long : length (self .row) ≡ 64 = self .long in
     let few : self .count ≤ length (self .row) = omega (arith, self .few) in
     let found : at ≡ place (c .args .v) (take (self .count) (self .row)) = rw sub-zero at (c .place-of-at .ensures) in
-    let room : at < 64 = omega (arith, self .few, place-few (self .row) (self .count) h few at found, c .if-at-eq64 .left) in
+    let room : at < 64 = omega (arith, self .few, place-few (self .row) (self .count) h few at found, c .if-at-eq-MOST-HELD .left) in
     let small : Small (c .args .value) = omega (arith, ints) in
     let same : toZ w64 (ofZ w64 (c .args .value)) ≡ c .args .value = toZ-ofZ w64 _ (c .fits .value) in
     let row : SmallRow (set (self .row) at record { variable = c .args .v; value = toZ w64 (ofZ w64 (c .args .value)) }) =
@@ -59,7 +59,7 @@ ghost-self-else-at-self g c =
     let long : length (self .row) ≡ 64 = self .long in
     let few : self .count ≤ length (self .row) = omega (arith, self .few) in
     let found : at ≡ place (c .args .v) (take (self .count) (self .row)) = rw sub-zero at (c .place-of-at .ensures) in
-    let room : at < 64 = omega (arith, self .few, place-few (self .row) (self .count) h few at found, c .if-at-eq64 .left) in
+    let room : at < 64 = omega (arith, self .few, place-few (self .row) (self .count) h few at found, c .if-at-eq-MOST-HELD .left) in
     let small : Small (c .args .value) = omega (arith, ints) in
     let same : toZ w64 (ofZ w64 (c .args .value)) ≡ c .args .value = toZ-ofZ w64 _ (c .fits .value) in
     let row : SmallRow (set (self .row) at record { variable = c .args .v; value = toZ w64 (ofZ w64 (c .args .value)) }) =
@@ -74,7 +74,7 @@ returns-then-at-self g c =
     let long : length (self .row) ≡ 64 = self .long in
     let few : self .count ≤ length (self .row) = omega (arith, self .few) in
     let found : at ≡ place (c .args .v) (take (self .count) (self .row)) = rw sub-zero at (c .place-of-at .ensures) in
-    let room : at < 64 = omega (arith, self .few, place-few (self .row) (self .count) h few at found, c .if-at-eq64 .left) in
+    let room : at < 64 = omega (arith, self .few, place-few (self .row) (self .count) h few at found, c .if-at-eq-MOST-HELD .left) in
     let small : Small (c .args .value) = omega (arith, ints) in
     let same : toZ w64 (ofZ w64 (c .args .value)) ≡ c .args .value = toZ-ofZ w64 _ (c .fits .value) in
     let known : c .args .v < g .P·Programme .table (self .below .now) .variables = rw (c .variable-count .ensures) at (c .if-v-variable-count .left) in
@@ -90,7 +90,7 @@ returns-else-at-self g c =
     let long : length (self .row) ≡ 64 = self .long in
     let few : self .count ≤ length (self .row) = omega (arith, self .few) in
     let found : at ≡ place (c .args .v) (take (self .count) (self .row)) = rw sub-zero at (c .place-of-at .ensures) in
-    let room : at < 64 = omega (arith, self .few, place-few (self .row) (self .count) h few at found, c .if-at-eq64 .left) in
+    let room : at < 64 = omega (arith, self .few, place-few (self .row) (self .count) h few at found, c .if-at-eq-MOST-HELD .left) in
     let small : Small (c .args .value) = omega (arith, ints) in
     let same : toZ w64 (ofZ w64 (c .args .value)) ≡ c .args .value = toZ-ofZ w64 _ (c .fits .value) in
     let known : c .args .v < g .P·Programme .table (self .below .now) .variables = rw (c .variable-count .ensures) at (c .if-v-variable-count .left) in
