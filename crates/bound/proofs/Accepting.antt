@@ -48,7 +48,7 @@ judged-ok count next rows p w rises there least greatest =
     ∙ cond-true _ _ _ (and-from _ _ (least-is (pos 1) (w .weight) least) (least-is (w .weight) (pos most) greatest))
     ∙ ap (placed (w .weight) p) (cond-true _ _ _ (lt-ltb (w .row) rows there))
 
-allowed-yes : (t : Table) (v : ℕ) → t .whole v ≡ true → t .low v ≡ pos 0 → t .high v ≡ pos 1 → allowed t v ≡ true
+pub allowed-yes : (t : Table) (v : ℕ) → t .whole v ≡ true → t .low v ≡ pos 0 → t .high v ≡ pos 1 → allowed t v ≡ true
 allowed-yes t v marked low high = and-from _ _ marked (and-from _ _ (ap (λ z. isNat z 0) low) (ap (λ z. isNat z 1) high))
 
 small-fits : (n : ℕ) → n < 1024 → SFits w64 (pos n)

@@ -35,7 +35,7 @@ stepped-is : (p q : ℕ) (s : Step) (r : Result Content RecordFault) → stepped
 stepped-is p q s (Ok e) h = let same = inside (stepOf e, p + e .size) (s, q) h in (e, refl, ap (λ x. x .0) same, ap (λ x. x .1) same)
 stepped-is p q s (Err f) h = absurd (never _ (s, q) h)
 
-step-read : (file : List ℕ) (p q : ℕ) (s : Step) → stepAt file p ≡ Ok (s, q) → (e : Content) × (read treeKinds (drop p file) ≡ Ok e) × (stepOf e ≡ s) × (p + e .size ≡ q)
+pub step-read : (file : List ℕ) (p q : ℕ) (s : Step) → stepAt file p ≡ Ok (s, q) → (e : Content) × (read treeKinds (drop p file) ≡ Ok e) × (stepOf e ≡ s) × (p + e .size ≡ q)
 unfolding stepAt
 step-read file p q s h = stepped-is p q s (read treeKinds (drop p file)) (not-refused (leb (length file) p) NotOneTree (length file) _ (s, q) h .1)
 
@@ -79,7 +79,7 @@ module _ (file : List ℕ) (bytes : All Byte file) (p q : ℕ) where
       ∙ ap (λ l. l ++ drop (c .size) (drop p file)) (ap (encode (c .kind)) (own .parts) ∙ encode-more (c .kind) few (16 - own .count))
       ∙ ap (λ l. encode (c .kind) few ++ l) (drop-drop (c .size) p file ∙ ap (λ n. drop n file) past)
 
-  split-bytes : (z : ℤ) → stepAt file p ≡ Ok (Split z, q) → drop p file ≡ encode 8 (z ∷ []) ++ drop q file
+  pub split-bytes : (z : ℤ) → stepAt file p ≡ Ok (Split z, q) → drop p file ≡ encode 8 (z ∷ []) ++ drop q file
   split-bytes z h =
       let k = step-read file p q (Split z) h in
       let e = k .0 in
@@ -91,7 +91,7 @@ module _ (file : List ℕ) (bytes : All Byte file) (p q : ℕ) where
       ∙ (λ i. encode (eight i) (take (one i) (e .fields)) ++ drop q file)
       ∙ ap (λ l. encode 8 l ++ drop q file) (take-one (e .fields) (omega (arith, own .long)) ∙ ap (λ x. x ∷ []) (at .1))
 
-  row-bytes : (r w : ℤ) → stepAt file p ≡ Ok (Row r w, q) → drop p file ≡ encode 9 (r ∷ w ∷ []) ++ drop q file
+  pub row-bytes : (r w : ℤ) → stepAt file p ≡ Ok (Row r w, q) → drop p file ≡ encode 9 (r ∷ w ∷ []) ++ drop q file
   row-bytes r w h =
       let k = step-read file p q (Row r w) h in
       let e = k .0 in
@@ -120,7 +120,7 @@ module _ (file : List ℕ) (bytes : All Byte file) where
       let here = encode 9 (pos (w .row) ∷ w .weight ∷ []) in
       row-bytes file bytes p (h .0) (pos (w .row)) (w .weight) (h .1) ∙ ap (λ l. here ++ l) (leaf-bytes ws (h .0) q (h .2)) ∙ sym (append-assoc here (leafBytes ws) (drop q file))
 
-  tree-bytes : (tree : Tree) (p q : ℕ) → Spells file p tree q → drop p file ≡ treeBytes tree ++ drop q file
+  pub tree-bytes : (tree : Tree) (p q : ℕ) → Spells file p tree q → drop p file ≡ treeBytes tree ++ drop q file
   tree-bytes (leaf ws) p q h = leaf-bytes ws p q h
   tree-bytes (split v a b) p q h =
       let here = encode 8 (pos v ∷ []) in

@@ -13,4 +13,5 @@ pub mod Bytes
 pub mod Sound
 pub mod Bounding
 pub mod Accepting
+pub mod Refusing
 pub mod Whole

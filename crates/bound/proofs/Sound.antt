@@ -65,7 +65,7 @@ module _ (t : Table) (file : List ℕ) where
       let next : nextRow (ws ++ w ∷ []) ≡ w .row + 1 = folded-push (λ n w. w .row + 1) 0 ws w in
       (w ∷ says .0, (good, says .1), (rises, subst (λ n. Rising n (says .0)) next (says .2)), (m, is, says .3), ap (leafBound t) (sym (append-assoc ws (w ∷ []) (says .0))) ∙ says .4)
 
-  first-rises : (ws : List Weight) (row : ℕ) → (1 ≤ length ws → nextRow ws ≤ row) → nextRow ws ≤ row
+  pub first-rises : (ws : List Weight) (row : ℕ) → (1 ≤ length ws → nextRow ws ≤ row) → nextRow ws ≤ row
   first-rises [] row h = omega arith
   first-rises (w ∷ ws) row h = h (omega arith)
 

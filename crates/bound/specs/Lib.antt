@@ -8,4 +8,5 @@ pub mod Paths
 pub mod Steps
 pub mod Checks
 pub mod Trees
+pub mod Refusals
 pub mod Piles

@@ -10,6 +10,7 @@ ghost use Rattle.bound.specs.Layers.{fixed, holding};
 ghost use Rattle.bound.specs.Paths.{heldOf, countOf, belowOf, Free, SamePath};
 ghost use Rattle.bound.specs.Checks.{allowed, nodeAt, finished, checked, Gives, OverTree};
 ghost use Rattle.bound.specs.Trees.{Proves, Accepts};
+ghost use Rattle.bound.specs.Refusals.{Refused, refusedBy};
 ghost use Rattle.bound.specs.Piles.{Every-pile-is-bounded};
 use crate::faults::Fault;
 use crate::faults::Refusal;
@@ -137,12 +138,14 @@ fn walk<P: Programme>(pile: &P, file: &[u8]) -> Result<i64, Refusal>
 // `exact`: the answer, bound or refusal, is what the definitions make of the pile's table and the file alone;
 // `proves`: a file that is accepted is a tree that fits the table, and the answer is the tree's bound;
 // `sound`: every point of the pile over any denominator keeps the bound;
-// `accepts`: every tree that fits the table, and whose bound can be summed, is accepted.
+// `accepts`: every tree that fits the table, and whose bound can be summed, is accepted;
+// `refuses`: a file that is refused begins a tree that fits the table, up to the place of the refusal, and is wrong there.
 pub fn check<P: Programme>(pile: &P, file: &[u8]) -> Result<i64, Refusal>
     ensures exact { λ r. ⌜ r ≡ checked (table (now (pile .entry))) (now (file .entry)) ⌝ }
     ensures proves { λ r. ⌜ made r (λ b. Proves (table (now (pile .entry))) (now (file .entry)) b) ⌝ }
     ensures sound { λ r. ⌜ made r (λ b. Bounds (table (now (pile .entry))) b) ⌝ }
     ensures accepts { λ r. ⌜ Accepts (table (now (pile .entry))) (now (file .entry)) r ⌝ }
+    ensures refuses { λ r. ⌜ refusedBy r (λ e. Refused (table (now (pile .entry))) (now (file .entry)) e) ⌝ }
 {
     walk(pile, file)
 }
