@@ -2,7 +2,7 @@
 use mathlib.Core.Path.{_≡_, refl, sym, ap, subst, _∙_}
 use mathlib.Core.Bool.{Bool, true, false, cond}
 use mathlib.Core.List.{List, [], _∷_}
-use Prim.Native.Nat.{ℕ, suc, _+_, _-_, _*_, _/_, _^_, _≤_, _<_}
+use Prim.Native.Nat.{ℕ, suc, _+_, _-_, _*_, _/_, _^_, _≤_}
 use native.Mathlib.Omega.{arith}
 use lib.Count.{ones}
 use lib.ListN.{length, take, drop, getD}
@@ -18,12 +18,6 @@ use Rattle.records.specs.declared.Fault.the-variants.{CutShort, BitBeyond, Zer
 use Rattle.records.specs.declared.Kind.{Kind}
 use Rattle.records.specs.Bytes.{width}
 use Rattle.records.specs.Read.{read, body, fieldCount, hasZero, values, fields, Content}
-
-pub read-short : (kinds : List Kind) (bs : List ℕ) → length bs < 3 → read kinds bs ≡ Err CutShort
-read-short kinds [] h = refl
-read-short kinds (a ∷ []) h = refl
-read-short kinds (a ∷ b ∷ []) h = refl
-read-short kinds (a ∷ b ∷ c ∷ bs) h = absurd (omega arith)
 
 -- `rest` as the slice pattern has it
 pub read-long : (kinds : List Kind) (bs : List ℕ) → 3 ≤ length bs → read kinds bs ≡ body (getD bs 0 0) (getD bs 1 0 * 256 + getD bs 2 0) (take (length bs - 3) (drop 3 bs)) (fieldCount kinds (getD bs 0 0))

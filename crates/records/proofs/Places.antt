@@ -1,19 +1,19 @@
 -- Where a field stands among the bytes. Assumes nothing.
-use mathlib.Core.Path.{_≡_, refl, sym, ap, subst, _∙_}
+use mathlib.Core.Path.{_≡_, refl, sym, ap, _∙_}
 use mathlib.Core.Bool.{Bool, true, false, cond}
-use mathlib.Core.List.{List, [], _∷_}
+use mathlib.Core.List.{List, _∷_}
 use Prim.Native.Nat.{ℕ, zero, suc, _+_, _-_, _*_, _/_, _%_, _^_, _≤_, _<_}
-use native.Mathlib.Nat.{suc-mul, mul-comm, div-one, mod-one, zero-mul}
+use native.Mathlib.Nat.{suc-mul, div-one, mod-one, zero-mul}
 use native.Mathlib.Numerals.{add-one, one-add}
 use native.Mathlib.Omega.{arith}
 use lib.Bits.{bitAnd}
-use lib.Count.{ones, ones-step, ones-cat}
+use lib.Count.{ones, ones-cat}
 use lib.Dec.{eqb, ltb}
 use lib.IntN.{ℤ, pos}
-use lib.ListN.{length, take, drop, getD}
+use lib.ListN.{length, drop, getD}
 use lib.Pow.{pow-mono}
 use lib.Seq.{drop-drop}
-use Rattle.std.proofs.shelf.Bits.{and-mask, one-shl, shr-split, mod-pow-add, shr-shr, mod-below, div-below, pow-pos}
+use Rattle.std.proofs.shelf.Bits.{and-mask, one-shl, mod-pow-add, shr-shr, mod-below, div-below, pow-pos}
 use Rattle.std.proofs.shelf.Lists.{getD-past}
 use Rattle.std.proofs.shelf.Tests.{eqb-true, eqb-false, eq-eqb, ne-eqb, ltb-true, ltb-false, cond-true, cond-false}
 use Rattle.records.specs.Bytes.{value, width}
@@ -31,12 +31,6 @@ pub no-bit : (m i : ℕ) → m < 2 ^ 16 → 16 ≤ i → m / 2 ^ i ≡ 0
 no-bit m i h far =
     let one : m / 2 ^ i < 1 = div-below m (2 ^ i) 1 (pow-pos i) (omega (arith, pow-mono {i = 16} {j = i} far)) in
     omega (arith, one)
-
--- a standing bit adds one to those below it
-pub ones-below : (m i : ℕ) → (m / 2 ^ i % 2 ≡ 0 → ⊥) → ones (m % 2 ^ i) < ones m
-ones-below m i h =
-    let whole : ones (m / 2 ^ i * 2 ^ i + m % 2 ^ i) ≡ ones (m / 2 ^ i) + ones (m % 2 ^ i) = ones-cat i (m / 2 ^ i) (m % 2 ^ i) (mod-below m (2 ^ i) (pow-pos i)) in
-    omega (arith, whole, ap ones (shr-split m i), ones-step (m / 2 ^ i))
 
 ones-bit : (b : ℕ) → b < 2 → ones b ≡ b
 unfolding ones

@@ -1,22 +1,21 @@
 -- Writing gives back the bytes that were read. Assumes nothing.
 use mathlib.Core.Path.{_≡_, refl, sym, ap, subst, _∙_}
-use mathlib.Core.Bool.{Bool, true, false, cond, _||_}
+use mathlib.Core.Bool.{Bool, true, false, cond}
 use mathlib.Core.List.{List, [], _∷_, _++_}
-use Prim.Native.Nat.{ℕ, zero, suc, _+_, _-_, _*_, _/_, _%_, _^_, _≤_, _<_}
+use Prim.Native.Nat.{ℕ, zero, suc, _+_, _*_, _/_, _%_, _^_, _≤_, _<_}
 use native.Mathlib.Nat.{pow-suc, pow-succ', div-div-eq-div-mul, div-one, mul-suc, mul-assoc, mul-zero}
 use native.Mathlib.Omega.{arith}
 use lib.Count.{ones, ones-step}
-use lib.Dec.{eqb, ltb}
-use lib.IntN.{ℤ, pos, negsuc}
+use lib.Dec.{eqb}
+use lib.IntN.{ℤ, pos}
 use lib.ListN.{length, take, drop, length-drop, take-append-drop}
 use lib.Seq.{length-take-le}
-use mir.Syntax.{Width, w32, w64}
-use mir.Val.{toZ, ofZ}
+use mir.Syntax.{w32, w64}
+use mir.Val.{ofZ}
 use Rattle.std.proofs.shelf.Bits.{div-mul-add, mod-mul-add, div-below, mul-le, div-add-mod', mod-below}
 use Rattle.std.proofs.shelf.Signed.{ofZ-toZ}
 use Rattle.std.proofs.shelf.Tests.{eqb-true, eqb-false, or-parts}
 use Rattle.std.specs.declared.option.Option.{Option}
-use Rattle.std.specs.declared.option.Option.the-variants.{Some}
 use Rattle.std.specs.declared.result.Result.the-variants.{Ok}
 use Rattle.records.specs.declared.Kind.{Kind}
 use Rattle.std.specs.shelf.Lists.{All}

@@ -2,19 +2,18 @@
 use mathlib.Core.Path.{_≡_, refl, sym, ap, subst, _∙_}
 use mathlib.Core.Bool.{Bool, true, false, cond}
 use mathlib.Core.List.{List, [], _∷_, _++_}
-use Prim.Native.Nat.{ℕ, zero, suc, _+_, _-_, _*_, _/_, _%_, _^_, _≤_, _<_}
+use Prim.Native.Nat.{ℕ, zero, suc, _+_, _-_, _*_, _/_, _%_, _^_}
 use native.Mathlib.Omega.{arith}
 use borrow.Author.Gap.{read-sfits}
 use lib.Count.{ones}
 use lib.Dec.{eqb, ltb}
-use lib.IntN.{ℤ, pos}
+use lib.IntN.{pos}
 use lib.ListN.{length, take, drop, replicate, take-append-drop, length-take}
 use lib.Seq.{length-take-le}
 use mir.Syntax.{w32, w64}
 use mir.Val.{toZ, SFits}
 use Rattle.std.proofs.shelf.Lists.{drop-at}
 use Rattle.std.proofs.shelf.Tests.{ltb-false}
-use Rattle.std.specs.declared.option.Option.{Option}
 use Rattle.std.specs.declared.option.Option.the-variants.{Some}
 use Rattle.std.specs.declared.result.Result.{Result}
 use Rattle.std.specs.declared.result.Result.the-variants.{Ok, Err}
@@ -23,7 +22,7 @@ use Rattle.records.specs.declared.Fault.{Fault}
 use Rattle.records.specs.declared.Kind.{Kind}
 use Rattle.records.specs.Bytes.{bigEndian, isNarrow, width, value}
 use Rattle.records.specs.Read.{fieldCount, fields, Content, body, read}
-use Rattle.records.specs.Write.{Byte, encode, padded, written, FitsKind, Writable, Spelt, Stands, Unique}
+use Rattle.records.specs.Write.{Byte, encode, padded, written, FitsKind, Spelt, Stands, Unique}
 use Rattle.records.proofs.Bodies.{inside, body-passed, read-fits}
 use Rattle.records.proofs.Places.{fields-length}
 use Rattle.records.proofs.Rewriting.{all-take, begins}

@@ -1,27 +1,24 @@
 -- Reading gives back what was written. Assumes nothing.
-use mathlib.Core.Path.{_≡_, refl, sym, ap, subst, _∙_}
+use mathlib.Core.Path.{_≡_, refl, sym, ap, _∙_}
 use mathlib.Core.Bool.{Bool, true, false, cond, _||_}
-use mathlib.Core.List.{List, [], _∷_, _++_, append-nil}
-use Prim.Native.Nat.{ℕ, zero, suc, _+_, _-_, _*_, _/_, _%_, _^_, _≤_, _<_}
+use mathlib.Core.List.{List, [], _∷_, _++_}
+use Prim.Native.Nat.{ℕ, zero, suc, _+_, _*_, _/_, _%_, _^_, _≤_, _<_}
 use native.Mathlib.Nat.{pow-suc, mul-suc, mul-zero}
 use native.Mathlib.Omega.{arith}
 use lib.Count.{ones, ones-step}
-use lib.Dec.{eqb}
 use lib.IntN.{ℤ, pos, negsuc}
-use lib.ListN.{length, take, drop, length-append}
-use mir.Syntax.{Width, w32, w64}
+use lib.ListN.{length, drop, length-append}
+use mir.Syntax.{w32, w64}
 use mir.Val.{toZ, ofZ, SFits}
 use Rattle.std.proofs.shelf.Bits.{div-add-mod', div-below, div-mul-add, mod-mul-add, pow-pos}
 use Rattle.std.proofs.shelf.Lists.{take-at, drop-at, length-push}
 use Rattle.std.proofs.shelf.Signed.{toZ-ofZ}
 use Rattle.std.proofs.shelf.Tests.{cond-true, cond-false, eq-eqb, ne-eqb, le-ltb}
-use Rattle.std.specs.declared.option.Option.the-variants.{Some}
 use Rattle.std.specs.declared.result.Result.the-variants.{Ok}
 use Rattle.std.specs.shelf.Lists.{All}
-use Rattle.records.specs.declared.Kind.{Kind}
 use Rattle.records.specs.Bytes.{bigEndian, narrow, wide, isNarrow, width, value}
-use Rattle.records.specs.Read.{fieldCount, isZero, hasZero, values, fields, body, read}
-use Rattle.records.specs.Write.{digits, fieldBytes, mapOf, packed, encode, padded, FitsKind, Writable, Reads-back}
+use Rattle.records.specs.Read.{isZero, hasZero, values, fields, body}
+use Rattle.records.specs.Write.{digits, fieldBytes, mapOf, packed, padded, FitsKind, Reads-back}
 use Rattle.records.proofs.Bodies.{body-ok}
 use Rattle.records.proofs.Sizes.{value-long, zero-is}
 

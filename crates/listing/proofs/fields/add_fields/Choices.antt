@@ -1,6 +1,6 @@
 use mathlib.Core.Path.{_≡_}
 use mathlib.Core.List.{_++_}
-use lib.ListN.{take, drop}
+use lib.ListN.{drop}
 use Rattle.std.specs.Of.String.{string-bytes}
 use Rattle.records.specs.Read.{content}
 use Rattle.listing.specs.Lines.{fieldsText}
