@@ -4,6 +4,9 @@ use Prim.Native.Nat.{ℕ, _≤_}
 use native.Mathlib.Omega.{arith}
 use lib.IntN.{ℤ, pos, negℤ, _+ℤ_, _-ℤ_, _*ℤ_, *ℤ-comm}
 use lib.Signed.{_≤ℤ_}
+use Rattle.std.specs.Vec.{made}
+use Rattle.std.specs.declared.result.Result.{Result}
+use Rattle.std.specs.declared.result.Result.the-variants.{Ok, Err}
 use Rattle.std.proofs.shelf.Signed.{ints}
 use Rattle.numbers.proofs.Integers.{mul-add, mul-assoc}
 use Rattle.bound.specs.Points.{Bounds}
@@ -35,4 +38,9 @@ above D b held cost objective e h =
     omega (arith, ints)
 
 pub costs-above : CostsStayAbove
-costs-above m good X b held bounds D some Y list ok = above D b held (cost m X Y) _ (price-objective m good X Y) (bounds D Y some (price-point m good X D Y list ok))
+costs-above m good X b bounds held D some Y list ok = above D b held (cost m X Y) _ (price-objective m good X Y) (bounds D Y some (price-point m good X D Y list ok))
+
+-- what an accepted file proves
+pub made-more : {E : Type 0} (P Q : ℤ → Type 0) → ((b : ℤ) → P b → Q b) → (r : Result ℤ E) → made r P → made r Q
+made-more P Q f (Ok b) h = f b h
+made-more P Q f (Err e) h = h

@@ -25,15 +25,19 @@ PointsArePriceLists = (m : Market) → Lawful m → (X : ℕ → ℤ) (D : ℕ) 
     × (PriceList m D Y × KeepsPrices m X D Y → Point (pricing m X) D Y)
     × (objectiveAt (pricing m X) Y ≡ negℤ (cost m X Y))
 
--- Where b bounds the acceptance programme, 10,000 × the welfare of a clearing over D that keeps the rules on orders is at most D × b.
-abbrev pub WelfareStaysBelow : Type 0
-WelfareStaysBelow = (m : Market) → Lawful m → (b : ℤ) → Bounds (acceptance m) b
-    → (D : ℕ) → 1 ≤ D → (X : ℕ → ℤ) → Clearing m D X → KeepsOrders m D X
-    → (pos 10000 *ℤ welfare m X) ≤ℤ (pos D *ℤ b)
+-- b bounds the welfare of a market: 10,000 × the welfare of every clearing over any D that keeps the rules on orders is at most D × b.
+abbrev pub BoundsWelfare : Market → ℤ → Type 0
+BoundsWelfare m b = (D : ℕ) → 1 ≤ D → (X : ℕ → ℤ) → Clearing m D X → KeepsOrders m D X → (pos 10000 *ℤ welfare m X) ≤ℤ (pos D *ℤ b)
 
--- Where b bounds the price programme of the parts X, no price list over D that keeps the price rules for X costs less than a held cost by more than the price gap,
--- which is b + 1,000 × the held cost.
-abbrev pub CostsStayAbove : Type 0
-CostsStayAbove = (m : Market) → Lawful m → (X : ℕ → ℤ) (b held : ℤ) → Bounds (pricing m X) b
-    → (D : ℕ) → 1 ≤ D → (Y : ℕ → ℤ) → PriceList m D Y → KeepsPrices m X D Y
+-- b bounds what can be saved on the parts X: no price list over any D that keeps the price rules costs less than a cost that is held, beyond the price gap.
+-- The price gap is b + 1,000 × the held cost.
+abbrev pub BoundsSaving : Market → (ℕ → ℤ) → ℤ → Type 0
+BoundsSaving m X b = (held : ℤ) (D : ℕ) → 1 ≤ D → (Y : ℕ → ℤ) → PriceList m D Y → KeepsPrices m X D Y
     → (pos 1000 *ℤ (pos D *ℤ held -ℤ cost m X Y)) ≤ℤ (pos D *ℤ (b +ℤ pos 1000 *ℤ held))
+
+-- A bound of the acceptance programme bounds welfare, one of the price programme bounds the saving.
+abbrev pub WelfareStaysBelow : Type 0
+WelfareStaysBelow = (m : Market) → Lawful m → (b : ℤ) → Bounds (acceptance m) b → BoundsWelfare m b
+
+abbrev pub CostsStayAbove : Type 0
+CostsStayAbove = (m : Market) → Lawful m → (X : ℕ → ℤ) (b : ℤ) → Bounds (pricing m X) b → BoundsSaving m X b

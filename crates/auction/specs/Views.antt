@@ -1,14 +1,22 @@
--- What a price programme is over: a market, and the parts of its variables.
+-- What each programme is over: a closed market, and for prices the parts of a clearing.
 use Prim.Native.Nat.{ℕ}
-use lib.IntN.{ℤ, pos}
-use lib.ListN.{getD}
+use mathlib.Core.List.{List}
+use lib.IntN.{ℤ}
+use Rattle.rules.specs.Scratch.{partsIn}
 use Rattle.market.specs.Market.{Market}
 use Rattle.market.specs.View.{closedOf}
+use Rattle.auction.specs.declared.acceptance.AcceptanceProgramme.{AcceptanceProgramme}
 use Rattle.auction.specs.declared.pricing.PriceProgramme.{PriceProgramme}
 
-abbrev pub marketOf : PriceProgramme → Market
-marketOf p = closedOf (p .market .now)
+abbrev pub acceptedMarket : AcceptanceProgramme → Market
+acceptedMarket p = closedOf (p .market .now)
 
--- the parts of a variable, none beyond the last
-abbrev pub partsOf : PriceProgramme → ℕ → ℤ
-partsOf p v = getD (p .parts .now) v (pos 0)
+abbrev pub pricedMarket : PriceProgramme → Market
+pricedMarket p = closedOf (p .market .now)
+
+-- the numbers whose first 256 are the parts
+abbrev pub heldIn : PriceProgramme → List ℤ
+heldIn p = p .parts .now
+
+abbrev pub heldParts : PriceProgramme → ℕ → ℤ
+heldParts p v = partsIn (heldIn p) v

@@ -1,10 +1,10 @@
 // The acceptance programme of a closed market, answered from its entries.
-ghost use denote.Ref.{now};
 ghost use mathlib.Core.Path.{_≡_};
 ghost use Rattle.market.specs.View.{closedOf};
 ghost use Rattle.market.proofs.Books.{closed-lawful};
 ghost use Rattle.auction.specs.Acceptance.{acceptance};
 ghost use Rattle.auction.specs.AcceptanceLaw.{acceptance-lawful};
+ghost use Rattle.auction.specs.Views.{acceptedMarket};
 use bound::Programme;
 use market::ClosedMarket;
 
@@ -19,7 +19,7 @@ pub struct AcceptanceProgramme<'a> {
 
 impl<'a> AcceptanceProgramme<'a> {
     pub fn over(market: &'a ClosedMarket) -> AcceptanceProgramme<'a>
-        ensures { λ r. ⌜ now (r .market) ≡ now (market .entry) ⌝ }
+        ensures { λ r. ⌜ acceptedMarket r ≡ closedOf (now (market .entry)) ⌝ }
     {
         AcceptanceProgramme { market }
     }
@@ -30,9 +30,9 @@ pub impl<'a> Programme for AcceptanceProgramme<'a> as AcceptanceTable {
 
     const VARIABLES: usize = 256;
 
-    ghost table = { λ p. acceptance (closedOf (now (p .market))) };
+    ghost table = { λ p. acceptance (acceptedMarket p) };
 
-    ghost lawful = { λ p. acceptance-lawful (closedOf (now (p .market))) (closed-lawful (now (p .market))) };
+    ghost lawful = { λ p. acceptance-lawful (acceptedMarket p) (closed-lawful (p .market .now)) };
 
     fn scale_value(&self) -> i64 {
         Self::SCALE

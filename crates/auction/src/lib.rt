@@ -2,6 +2,7 @@
 // are the clearings that keep the rules on orders, and the price programme of a closed market and a held clearing, whose
 // points are the price lists that keep the price rules.
 mod acceptance;
+mod bounds;
 mod forms;
 mod orders;
 mod pricing;
@@ -10,6 +11,8 @@ mod theorems;
 
 pub use acceptance::AcceptanceProgramme;
 pub use acceptance::AcceptanceTable;
+pub use bounds::saving_bound;
+pub use bounds::welfare_bound;
 pub use pricing::PriceProgramme;
 pub use pricing::PriceTable;
 pub use theorems::costs_stay_above;

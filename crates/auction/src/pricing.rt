@@ -2,8 +2,8 @@
 ghost use Prim.Native.Nat.{ℕ, _<_};
 ghost use denote.Ref.{now};
 ghost use lib.IntN.{pos};
-ghost use lib.ListN.{getD};
 ghost use lib.Signed.{_≤ℤ_};
+ghost use Rattle.rules.specs.Scratch.{partsIn};
 use market::ClosedMarket;
 
 mod columns;
@@ -19,6 +19,6 @@ pub use table::PriceTable;
 pub struct PriceProgramme<'a> {
     pub(crate) market: &'a ClosedMarket,
     pub(crate) parts: &'a [i32],
-    ghost fromzero: { (v : ℕ) → v < 256 → pos 0 ≤ℤ getD (now parts) v (pos 0) },
-    ghost tofull: { (v : ℕ) → v < 256 → getD (now parts) v (pos 0) ≤ℤ pos 10000 },
+    ghost fromzero: { (v : ℕ) → v < 256 → pos 0 ≤ℤ partsIn (now parts) v },
+    ghost tofull: { (v : ℕ) → v < 256 → partsIn (now parts) v ≤ℤ pos 10000 },
 }

@@ -3,7 +3,7 @@ ghost use mathlib.Core.Path.{_≡_};
 ghost use lib.IntN.{negℤ};
 ghost use Rattle.auction.specs.Pricing.{priceNumbers, priceSide, marketSum, Numbered};
 ghost use Rattle.auction.specs.declared.rows.Measure.the-variants.{On};
-ghost use Rattle.auction.specs.Views.{marketOf, partsOf};
+ghost use Rattle.auction.specs.Views.{pricedMarket, heldParts};
 use super::PriceProgramme;
 use crate::forms::minus;
 use crate::forms::only_at;
@@ -14,7 +14,7 @@ use crate::rows::PriceRow;
 impl<'a> PriceProgramme<'a> {
     // Minus what is sold on a line.
     pub(crate) fn sold_less(&self, line: usize) -> i64
-        ensures { λ r. ⌜ r ≡ negℤ (marketSum (marketOf (now (self .entry))) (partsOf (now (self .entry))) (On line)) ⌝ }
+        ensures { λ r. ⌜ r ≡ negℤ (marketSum (pricedMarket (now (self .entry))) (heldParts (now (self .entry))) (On line)) ⌝ }
     {
         minus(self.market_sum(Measure::On(line)))
     }
@@ -22,7 +22,7 @@ impl<'a> PriceProgramme<'a> {
     // What a line has in a row.
     pub(crate) fn number_in(&self, row: PriceRow, line: usize) -> i64
         requires { ⌜ Numbered row ⌝ }
-        ensures { λ r. ⌜ r ≡ priceNumbers (marketOf (now (self .entry))) (partsOf (now (self .entry))) row line ⌝ }
+        ensures { λ r. ⌜ r ≡ priceNumbers (pricedMarket (now (self .entry))) (heldParts (now (self .entry))) row line ⌝ }
     {
         match row {
             PriceRow::Extra(k) => minus(orders::extra_on(self.market, line, k) as i64),
@@ -38,7 +38,7 @@ impl<'a> PriceProgramme<'a> {
 
     pub(crate) fn side_of(&self, row: PriceRow) -> i64
         requires { ⌜ Numbered row ⌝ }
-        ensures { λ r. ⌜ r ≡ priceSide (marketOf (now (self .entry))) (partsOf (now (self .entry))) row ⌝ }
+        ensures { λ r. ⌜ r ≡ priceSide (pricedMarket (now (self .entry))) (heldParts (now (self .entry))) row ⌝ }
     {
         match row {
             PriceRow::Extra(k) => minus(orders::extra_value(self.market, k)),

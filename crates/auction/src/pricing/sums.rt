@@ -4,14 +4,14 @@ ghost use Prim.Native.Nat.{_<_};
 ghost use lib.ListN.{length};
 ghost use Rattle.numbers.specs.Sums.{sumTo, Within, Term};
 ghost use Rattle.auction.specs.Pricing.{parentMeasure, extraMeasure, parentSum, extraSum, ofBasket, basketSum, ofLoop, loopSum, marketSum};
-ghost use Rattle.auction.specs.Views.{marketOf, partsOf};
+ghost use Rattle.auction.specs.Views.{pricedMarket, heldParts};
 use super::PriceProgramme;
 use crate::orders;
 use crate::rows::Measure;
 
 impl<'a> PriceProgramme<'a> {
     fn parent_measure(&self, measure: Measure, b: usize) -> i64
-        ensures { λ r. ⌜ r ≡ parentMeasure (marketOf (now (self .entry))) measure b ⌝ }
+        ensures { λ r. ⌜ r ≡ parentMeasure (pricedMarket (now (self .entry))) measure b ⌝ }
     {
         match measure {
             Measure::On(line) => orders::basket_on(self.market, line, b) as i64,
@@ -20,7 +20,7 @@ impl<'a> PriceProgramme<'a> {
     }
 
     fn extra_measure(&self, measure: Measure, k: usize) -> i64
-        ensures { λ r. ⌜ r ≡ extraMeasure (marketOf (now (self .entry))) measure k ⌝ }
+        ensures { λ r. ⌜ r ≡ extraMeasure (pricedMarket (now (self .entry))) measure k ⌝ }
     {
         match measure {
             Measure::On(line) => orders::extra_on(self.market, line, k) as i64,
@@ -31,7 +31,7 @@ impl<'a> PriceProgramme<'a> {
     // Of the parent of a basket.
     fn parent_sum(&self, measure: Measure, b: usize) -> i64
         requires { ⌜ b < 96 ⌝ }
-        ensures { λ r. ⌜ Term (parentSum (marketOf (now (self .entry))) (partsOf (now (self .entry))) measure) 9998900010000 b r ⌝ }
+        ensures { λ r. ⌜ Term (parentSum (pricedMarket (now (self .entry))) (heldParts (now (self .entry))) measure) 9998900010000 b r ⌝ }
     {
         self.parent_measure(measure, b) * self.part(64 + b)
     }
@@ -39,7 +39,7 @@ impl<'a> PriceProgramme<'a> {
     // Of a child or substitute.
     fn extra_sum(&self, measure: Measure, k: usize) -> i64
         requires { ⌜ k < 96 ⌝ }
-        ensures { λ r. ⌜ Term (extraSum (marketOf (now (self .entry))) (partsOf (now (self .entry))) measure) 9998900010000 k r ⌝ }
+        ensures { λ r. ⌜ Term (extraSum (pricedMarket (now (self .entry))) (heldParts (now (self .entry))) measure) 9998900010000 k r ⌝ }
     {
         self.extra_measure(measure, k) * self.part(160 + k)
     }
@@ -47,7 +47,7 @@ impl<'a> PriceProgramme<'a> {
     // Of a child or substitute, 0 for one of another basket.
     fn of_basket(&self, measure: Measure, b: usize, k: usize) -> i64
         requires { ⌜ k < 96 ⌝ }
-        ensures { λ r. ⌜ Term (ofBasket (marketOf (now (self .entry))) (partsOf (now (self .entry))) measure b) 9998900010000 k r ⌝ }
+        ensures { λ r. ⌜ Term (ofBasket (pricedMarket (now (self .entry))) (heldParts (now (self .entry))) measure b) 9998900010000 k r ⌝ }
     {
         if self.market.extra(k).basket as usize == b {
             return self.extra_sum(measure, k);
@@ -58,7 +58,7 @@ impl<'a> PriceProgramme<'a> {
     // Of all orders of a basket.
     pub(crate) fn basket_sum(&self, measure: Measure, b: usize) -> i64
         requires { ⌜ b < 96 ⌝ }
-        ensures { λ r. ⌜ Term (basketSum (marketOf (now (self .entry))) (partsOf (now (self .entry))) measure) 969893300970000 b r ⌝ }
+        ensures { λ r. ⌜ Term (basketSum (pricedMarket (now (self .entry))) (heldParts (now (self .entry))) measure) 969893300970000 b r ⌝ }
     {
         let mut sum: i64 = 0;
         for k in 0..self.market.extra_count() {
@@ -70,7 +70,7 @@ impl<'a> PriceProgramme<'a> {
     // Of all orders of a basket, 0 for one of another loop.
     fn of_loop(&self, measure: Measure, ring: u8, b: usize) -> i64
         requires { ⌜ b < 96 ⌝ }
-        ensures { λ r. ⌜ Term (ofLoop (marketOf (now (self .entry))) (partsOf (now (self .entry))) measure ring) 969893300970000 b r ⌝ }
+        ensures { λ r. ⌜ Term (ofLoop (pricedMarket (now (self .entry))) (heldParts (now (self .entry))) measure ring) 969893300970000 b r ⌝ }
     {
         if self.market.basket(b).ring == ring {
             return self.basket_sum(measure, b);
@@ -80,7 +80,7 @@ impl<'a> PriceProgramme<'a> {
 
     // Of all baskets of a loop.
     pub(crate) fn loop_sum(&self, measure: Measure, ring: u8) -> i64
-        ensures is { λ r. ⌜ r ≡ loopSum (marketOf (now (self .entry))) (partsOf (now (self .entry))) measure ring ⌝ }
+        ensures is { λ r. ⌜ r ≡ loopSum (pricedMarket (now (self .entry))) (heldParts (now (self .entry))) measure ring ⌝ }
         ensures small { λ r. ⌜ Within 93109756893120000 r ⌝ }
     {
         let mut sum: i64 = 0;
@@ -92,7 +92,7 @@ impl<'a> PriceProgramme<'a> {
 
     // Of the parents of all baskets.
     fn parents_sum(&self, measure: Measure) -> i64
-        ensures is { λ r. ⌜ r ≡ sumTo (length (marketOf (now (self .entry)) .baskets)) (parentSum (marketOf (now (self .entry))) (partsOf (now (self .entry))) measure) ⌝ }
+        ensures is { λ r. ⌜ r ≡ sumTo (length (pricedMarket (now (self .entry)) .baskets)) (parentSum (pricedMarket (now (self .entry))) (heldParts (now (self .entry))) measure) ⌝ }
         ensures small { λ r. ⌜ Within 959894400960000 r ⌝ }
     {
         let mut sum: i64 = 0;
@@ -104,7 +104,7 @@ impl<'a> PriceProgramme<'a> {
 
     // Of all children and substitutes.
     fn extras_sum(&self, measure: Measure) -> i64
-        ensures is { λ r. ⌜ r ≡ sumTo (length (marketOf (now (self .entry)) .extras)) (extraSum (marketOf (now (self .entry))) (partsOf (now (self .entry))) measure) ⌝ }
+        ensures is { λ r. ⌜ r ≡ sumTo (length (pricedMarket (now (self .entry)) .extras)) (extraSum (pricedMarket (now (self .entry))) (heldParts (now (self .entry))) measure) ⌝ }
         ensures small { λ r. ⌜ Within 959894400960000 r ⌝ }
     {
         let mut sum: i64 = 0;
@@ -116,7 +116,7 @@ impl<'a> PriceProgramme<'a> {
 
     // Of all sell orders.
     pub(crate) fn market_sum(&self, measure: Measure) -> i64
-        ensures is { λ r. ⌜ r ≡ marketSum (marketOf (now (self .entry))) (partsOf (now (self .entry))) measure ⌝ }
+        ensures is { λ r. ⌜ r ≡ marketSum (pricedMarket (now (self .entry))) (heldParts (now (self .entry))) measure ⌝ }
         ensures small { λ r. ⌜ Within 1919788801920000 r ⌝ }
     {
         self.parents_sum(measure) + self.extras_sum(measure)

@@ -1,15 +1,13 @@
 // The price programme's answers.
 ghost use mathlib.Core.Path.{_≡_};
 ghost use Prim.Native.Nat.{ℕ, _<_};
-ghost use denote.Ref.{now};
-ghost use lib.IntN.{pos};
-ghost use lib.ListN.{getD};
-ghost use lib.Signed.{_≤ℤ_};
+ghost use Rattle.market.specs.View.{closedOf};
 ghost use Rattle.market.proofs.Books.{closed-lawful};
 ghost use Rattle.rules.specs.Clearings.{Parts};
+ghost use Rattle.rules.specs.Scratch.{partsIn};
 ghost use Rattle.auction.specs.Pricing.{pricing};
 ghost use Rattle.auction.specs.PricingLaw.{held-lawful};
-ghost use Rattle.auction.specs.Views.{marketOf, partsOf};
+ghost use Rattle.auction.specs.Views.{pricedMarket, heldIn, heldParts};
 use super::PriceProgramme;
 use bound::Programme;
 use market::ClosedMarket;
@@ -17,9 +15,9 @@ use market::ClosedMarket;
 impl<'a> PriceProgramme<'a> {
     // Over a market and parts of 0 to 10,000, as a clearing has them.
     pub fn over(market: &'a ClosedMarket, parts: &'a [i32]) -> PriceProgramme<'a>
-        requires { ⌜ ((v : ℕ) → v < 256 → Parts 10000 (getD (now parts) v (pos 0))) ⌝ }
-        ensures market { λ r. ⌜ now (r .market) ≡ now (market .entry) ⌝ }
-        ensures parts { λ r. ⌜ now (r .parts) ≡ now (parts .entry) ⌝ }
+        requires { ⌜ ((v : ℕ) → v < 256 → Parts 10000 (partsIn (now parts) v)) ⌝ }
+        ensures market { λ r. ⌜ pricedMarket r ≡ closedOf (now (market .entry)) ⌝ }
+        ensures parts { λ r. ⌜ heldIn r ≡ now (parts .entry) ⌝ }
     {
         PriceProgramme { market, parts }
     }
@@ -30,9 +28,9 @@ pub impl<'a> Programme for PriceProgramme<'a> as PriceTable {
 
     const VARIABLES: usize = 192;
 
-    ghost table = { λ p. pricing (marketOf p) (partsOf p) };
+    ghost table = { λ p. pricing (pricedMarket p) (heldParts p) };
 
-    ghost lawful = { λ p. held-lawful (marketOf p) (closed-lawful (p .market .now)) (partsOf p) (p .fromzero) (p .tofull) };
+    ghost lawful = { λ p. held-lawful (pricedMarket p) (closed-lawful (p .market .now)) (heldParts p) (p .fromzero) (p .tofull) };
 
     fn scale_value(&self) -> i64 {
         Self::SCALE

@@ -5,7 +5,7 @@ use native.Mathlib.Omega.{arith}
 use lib.ListN.{length}
 use Rattle.numbers.proofs.Running.{summed-none, summed-more}
 use Rattle.auction.specs.Pricing.{ofBasket, basketSum}
-use Rattle.auction.specs.Views.{marketOf, partsOf}
+use Rattle.auction.specs.Views.{pricedMarket, heldParts}
 use Rattle.auction.proofs.Terms.{added}
 use Rattle.auction.proofs.pricing.PriceProgramme.basket_sum.Needs as need
 
@@ -19,8 +19,8 @@ loop-k-again c =
 
 pub returns : need.returns
 returns c =
-    let m = marketOf (c .args .self .now) in
+    let m = pricedMarket (c .args .self .now) in
     let done : c .loop-k .k ≡ length (m .extras) = search needs in
     let few : length (m .extras) ≤ 96 = search needs in
-    added (ofBasket m (partsOf (c .args .self .now)) (c .args .measure) (c .args .b)) (basketSum m (partsOf (c .args .self .now)) (c .args .measure)) (length (m .extras)) (c .loop-k .k) (c .args .b)
+    added (ofBasket m (heldParts (c .args .self .now)) (c .args .measure) (c .args .b)) (basketSum m (heldParts (c .args .self .now)) (c .args .measure)) (length (m .extras)) (c .loop-k .k) (c .args .b)
     _ _ _ done few (c .parent-sum .ensures .is) (c .parent-sum .ensures .small) (c .loop-k .inv) refl

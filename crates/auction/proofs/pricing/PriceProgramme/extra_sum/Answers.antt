@@ -8,22 +8,22 @@ use Rattle.numbers.specs.Sums.{Within}
 use Rattle.numbers.proofs.Products.{Multiplied}
 use Rattle.market.proofs.Books.{closed-lawful}
 use Rattle.auction.specs.Pricing.{extraMeasure, extraSum}
-use Rattle.auction.specs.Views.{marketOf, partsOf}
+use Rattle.auction.specs.Views.{pricedMarket, heldParts}
 use Rattle.auction.specs.Sizes.{extra-measure-within}
 use Rattle.auction.proofs.Terms.{weighed, weighed-term}
 use Rattle.auction.proofs.pricing.PriceProgramme.extra_sum.Needs as need
 
 product : (c : need.After-part) → Multiplied (toZ w64 (ofZ w64 (c .extra-measure .result))) (toZ w64 (ofZ w64 (c .part .result)))
-    (extraMeasure (marketOf (c .args .self .now)) (c .args .measure) (c .args .k)) (partsOf (c .args .self .now) (160 + c .args .k)) 9998900010000
+    (extraMeasure (pricedMarket (c .args .self .now)) (c .args .measure) (c .args .k)) (heldParts (c .args .self .now) (160 + c .args .k)) 9998900010000
 product c =
     let u : toZ w64 (ofZ w64 (c .extra-measure .result)) ≡ c .extra-measure .result = search needs in
     let v : toZ w64 (ofZ w64 (c .part .result)) ≡ c .part .result = search needs in
     weighed _ _ _ _ (u ∙ c .extra-measure .ensures) (v ∙ c .part .ensures .is)
-    (extra-measure-within (marketOf (c .args .self .now)) (closed-lawful (c .args .self .now .market .now)) (c .args .measure) (c .args .k))
+    (extra-measure-within (pricedMarket (c .args .self .now)) (closed-lawful (c .args .self .now .market .now)) (c .args .measure) (c .args .k))
     (subst (λ (z : ℤ). Within 10000 z) (c .part .ensures .is) (c .part .ensures .small))
 
 pub mul-result : need.mul-result
 mul-result c = product c .fits
 
 pub returns : need.returns
-returns c = weighed-term (extraSum (marketOf (c .args .self .now)) (partsOf (c .args .self .now)) (c .args .measure)) (c .args .k) _ _ _ _ refl (product c)
+returns c = weighed-term (extraSum (pricedMarket (c .args .self .now)) (heldParts (c .args .self .now)) (c .args .measure)) (c .args .k) _ _ _ _ refl (product c)
