@@ -1,28 +1,25 @@
 -- The bytes of a tree that sits in the table are accepted.
 use mathlib.Core.Path.{_≡_, refl, sym, ap, subst, _∙_}
-use mathlib.Core.Bool.{Bool, true, false, cond, _&&_}
+use mathlib.Core.Bool.{true}
 use mathlib.Core.List.{List, [], _∷_, _++_, append-assoc, append-nil}
-use Prim.Native.Nat.{ℕ, zero, suc, _+_, _-_, _^_, _≤_, _<_}
+use Prim.Native.Nat.{ℕ, zero, suc, _+_, _-_, _≤_, _<_}
 use native.Mathlib.Omega.{arith}
-use lib.Dec.{eqb, ltb}
+use lib.Dec.{ltb}
 use lib.IntN.{ℤ, pos}
-use lib.ListN.{length, drop, getD, length-append, length-drop}
-use lib.Signed.{ltZ, leZ, _≤ℤ_}
+use lib.ListN.{length, drop, length-append, length-drop}
+use lib.Signed.{leZ, _≤ℤ_}
 use mir.Syntax.{w64}
 use mir.Val.{SFits}
 use Rattle.std.proofs.shelf.Lists.{drop-drop, drop-at}
 use Rattle.std.proofs.shelf.Signed.{ints}
 use Rattle.std.proofs.shelf.Sums.{folded-push}
-use Rattle.std.proofs.shelf.Tests.{and-from, and-right, cond-true, cond-false, lt-ltb, le-ltb, ne-eqb}
+use Rattle.std.proofs.shelf.Tests.{and-from, and-right, cond-true, cond-false, lt-ltb, le-ltb}
 use Rattle.std.specs.Numbers.{maxZ}
 use Rattle.std.specs.shelf.Lists.{All}
-use Rattle.std.specs.declared.option.Option.{Option}
-use Rattle.std.specs.declared.option.Option.the-variants.{Some, None}
-use Rattle.std.specs.declared.result.Result.{Result}
-use Rattle.std.specs.declared.result.Result.the-variants.{Ok, Err}
+use Rattle.std.specs.declared.option.Option.the-variants.{Some}
+use Rattle.std.specs.declared.result.Result.the-variants.{Ok}
 use Rattle.records.specs.Read.{read}
 use Rattle.records.specs.Write.{encode, padded, written, Writable}
-use Rattle.bound.specs.declared.faults.Refusal.{Refusal}
 use Rattle.records.proofs.Writing.{reads-back}
 use Rattle.bound.specs.declared.tree.Found.the-variants.{Branch, Leaf}
 use Rattle.bound.specs.declared.tree.Step.{Step}
@@ -31,7 +28,7 @@ use Rattle.bound.specs.declared.leaf.Weight.{Weight}
 use Rattle.bound.specs.Tables.{Table, Lawful, most}
 use Rattle.bound.specs.Leaves.{after, leafBound}
 use Rattle.bound.specs.Steps.{treeKinds, and-then, stepOf, stepAt}
-use Rattle.bound.specs.Checks.{numbered, placed, branching, opened, judged, closing, nextRow, leafAt, foundAt, isNat, allowed, nodeAt, checked}
+use Rattle.bound.specs.Checks.{placed, branching, judged, closing, nextRow, leafAt, foundAt, isNat, allowed, nodeAt, checked}
 use Rattle.bound.specs.Layers.{holding}
 use Rattle.bound.specs.Trees.{Tree, leaf, split, Weighs, Rising, Sits, treeBound, leafBytes, treeBytes}
 use Rattle.bound.proofs.Duality.{after-is, some-is}

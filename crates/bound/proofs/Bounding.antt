@@ -3,25 +3,23 @@ use mathlib.Core.Path.{_≡_, refl, sym, ap, subst, _∙_}
 use mathlib.Core.Bool.{Bool, true, false, cond}
 use mathlib.Core.List.{List, [], _∷_}
 use mathlib.Core.Logic.{_⊎_, inl, inr}
-use Prim.Native.Nat.{ℕ, zero, suc, _+_, _*_, _≤_, _<_}
+use Prim.Native.Nat.{ℕ, zero, suc, _*_, _≤_, _<_}
 use native.Mathlib.Omega.{arith}
 use lib.Dec.{eqb, ltb}
-use lib.IntN.{ℤ, pos, negsuc, natAbs, zero-*ℤ, _+ℤ_, _*ℤ_}
+use lib.IntN.{ℤ, pos, negsuc, _*ℤ_}
 use lib.Signed.{_≤ℤ_}
-use borrow.Author.Differences.{up, down, product-is}
-use native.Mathlib.Nat.{mul-le-mul-left}
+use borrow.Author.Differences.{up}
 use Rattle.std.proofs.shelf.Bits.{mul-le}
 use Rattle.std.proofs.shelf.Signed.{ints}
 use Rattle.std.proofs.shelf.Tests.{eqb-true}
 use Rattle.std.specs.Numbers.{maxZ}
 use Rattle.std.specs.shelf.Lists.{All}
-use Rattle.std.specs.declared.option.Option.{Option}
-use Rattle.std.specs.declared.option.Option.the-variants.{Some, None}
+use Rattle.std.specs.declared.option.Option.the-variants.{Some}
 use Rattle.bound.specs.declared.leaf.Weight.{Weight}
 use Rattle.bound.specs.Tables.{Table, Lawful, Small}
 use Rattle.bound.specs.Points.{Point, Bounds}
-use Rattle.bound.specs.Leaves.{after, leafBound}
-use Rattle.bound.specs.Layers.{fixed, fixed-lawful}
+use Rattle.bound.specs.Leaves.{after}
+use Rattle.bound.specs.Layers.{fixed-lawful}
 use Rattle.bound.specs.Layers.{holding}
 use Rattle.bound.specs.Trees.{Tree, leaf, split, Weighs, Sits, treeBound}
 use Rattle.numbers.proofs.Integers.{mul-le-right, le-max-left, le-max-right}

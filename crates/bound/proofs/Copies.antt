@@ -1,6 +1,6 @@
 -- A sheet that is a copy means the same.
-use mathlib.Core.Path.{_≡_, refl, sym, ap, subst, _∙_, fun-ext}
-use mathlib.Core.Bool.{Bool, true, false, cond}
+use mathlib.Core.Path.{_≡_, sym, ap, subst, _∙_, fun-ext}
+use mathlib.Core.Bool.{true, false, cond}
 use mathlib.Core.List.{List}
 use mathlib.Core.Logic.{inl, inr}
 use Prim.Native.Nat.{ℕ, _+_, _≤_, _<_}
@@ -9,7 +9,7 @@ use borrow.Author.Tests.{le-ltb, lt-ltb}
 use lib.Dec.{ltb}
 use lib.IntN.{ℤ, pos}
 use lib.Seq.{getD-set-same, getD-set-other}
-use lib.ListN.{length, set, getD, replicate, length-replicate, getD-replicate}
+use lib.ListN.{length, set, replicate, length-replicate, getD-replicate}
 use lib.Signed.{_≤ℤ_, ≤ℤ-refl}
 use Rattle.std.proofs.shelf.Lists.{getD-past}
 use Rattle.std.proofs.shelf.Tests.{cases-lt, cases-order}

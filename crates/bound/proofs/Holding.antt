@@ -1,20 +1,19 @@
 -- The turns of the search among the held variables.
-use mathlib.Core.Path.{_≡_, refl, sym, ap, subst, _∙_}
+use mathlib.Core.Path.{_≡_, sym, ap, subst, _∙_}
 use mathlib.Core.Logic.{inl, inr}
 use mathlib.Core.Bool.{true, false, cond}
 use mathlib.Core.List.{List, [], _∷_, _++_}
 use Prim.Native.Nat.{ℕ, suc, _+_, _≤_, _<_}
 use native.Mathlib.Omega.{arith}
 use native.Mathlib.Numerals.{add-one}
-use lib.Dec.{eqb, ltb, leb}
+use lib.Dec.{eqb, ltb}
 use borrow.Author.Tests.{eq-eqb, ne-eqb, le-ltb, lt-ltb, le-leb}
 use lib.IntN.{ℤ}
 use lib.ListN.{length, getD, drop, take, set, replicate, length-replicate, getD-replicate}
 use lib.Seq.{take-suc-set, take-set-lt, length-take-le, getD-set-same, getD-set-other}
 use Rattle.std.proofs.shelf.Lists.{at-drop-more, getD-past}
 use Rattle.std.proofs.shelf.Tests.{cases-eq, cases-lt}
-use Rattle.std.specs.declared.result.Result.{Result}
-use Rattle.std.specs.declared.result.Result.the-variants.{Ok, Err}
+use Rattle.std.specs.declared.result.Result.the-variants.{Ok}
 use Rattle.bound.specs.Tables.{Small}
 use Rattle.bound.specs.declared.fixing.Held.{Held}
 use Rattle.bound.specs.Layers.{heldOr, none-held, SmallRow, place, withHeld, holdAnswer}

@@ -1,11 +1,10 @@
 -- The part of one variable, and the turns of the loop over the variables.
 use mathlib.Core.Path.{_≡_, sym, ap, _∙_}
 use mathlib.Core.List.{List}
-use Prim.Native.Nat.{ℕ, suc, _+_, _-_, _≤_, _<_}
+use Prim.Native.Nat.{ℕ, suc, _+_, _-_, _<_}
 use lib.IntN.{ℤ}
 use native.Mathlib.Omega.{arith}
 use Rattle.std.specs.Numbers.{maxZ}
-use Rattle.std.specs.declared.option.Option.{Option}
 use Rattle.std.specs.declared.option.Option.the-variants.{Some, None}
 use Rattle.bound.specs.declared.leaf.Weight.{Weight}
 use Rattle.bound.specs.Tables.{Table}

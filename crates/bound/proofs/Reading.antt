@@ -1,10 +1,9 @@
 -- What a step of the file is, and what it leaves to read.
 use mathlib.Core.Path.{_≡_, refl, sym, ap, _∙_}
 use mathlib.Core.Bool.{true, false}
-use mathlib.Core.List.{List, [], _∷_}
+use mathlib.Core.List.{List}
 use Prim.Native.Nat.{ℕ, zero, suc, _+_, _-_, _≤_, _<_}
 use native.Mathlib.Omega.{arith}
-use lib.Dec.{eqb}
 use lib.IntN.{ℤ, pos}
 use lib.ListN.{length, drop, getD}
 use Rattle.std.proofs.shelf.Tests.{eq-eqb, ne-eqb, le-leb, lt-leb, cond-true, cond-false}
@@ -12,7 +11,6 @@ use Rattle.std.specs.Numbers.{maxZ}
 use Rattle.std.specs.declared.result.Result.{Result}
 use Rattle.std.specs.declared.result.Result.the-variants.{Ok, Err}
 use Rattle.records.specs.Read.{Content, read}
-use Rattle.bound.specs.declared.faults.Fault.{Fault}
 use Rattle.bound.specs.declared.faults.Fault.the-variants.{Record, NotOneTree, TooDeep, SplitBarred}
 use Rattle.records.specs.declared.Refusal.{Refusal as RecordRefusal}
 use Rattle.bound.specs.declared.faults.Refusal.{Refusal}

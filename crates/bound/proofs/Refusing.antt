@@ -5,7 +5,7 @@ use mathlib.Core.List.{List, [], _∷_, _++_, append-assoc, append-nil}
 use mathlib.Core.Logic.{_⊎_, inl, inr}
 use Prim.Native.Nat.{ℕ, zero, suc, _+_, _-_, _≤_, _<_}
 use native.Mathlib.Omega.{arith}
-use lib.Dec.{eqb, ltb, leb}
+use lib.Dec.{ltb, leb}
 use lib.IntN.{ℤ, pos, negsuc}
 use lib.ListN.{length, drop, length-append, length-drop}
 use lib.Signed.{ltZ, leZ, _≤ℤ_}
@@ -35,9 +35,9 @@ use Rattle.bound.specs.declared.tree.Step.the-variants.{Split, Row, Close}
 use Rattle.bound.specs.Tables.{Table, most}
 use Rattle.bound.specs.Leaves.{leafBound}
 use Rattle.bound.specs.Layers.{holding}
-use Rattle.bound.specs.Steps.{treeKinds, refuse, and-then, stepOf, stepped, stepAt}
+use Rattle.bound.specs.Steps.{treeKinds, refuse, and-then, stepped, stepAt}
 use Rattle.bound.specs.Checks.{numbered, placed, judged, branching, opened, closing, nextRow, leafStep, leafAt, foundAt, allowed, sides, nodeStep, nodeAt, finished, checked}
-use Rattle.bound.specs.Trees.{Tree, leaf, split, Weighs, Rising, Sits, treeBound, treeBytes}
+use Rattle.bound.specs.Trees.{Tree, leaf, split, Weighs, Rising, Sits, treeBytes}
 use Rattle.bound.specs.Refusals.{Path, within, off, on, rowsBytes, pathBytes, Beyond, MaySplit, Late, InRange, WrongStep, WrongRecord, Wrong, Stops, Refused, refusedBy}
 use Rattle.bound.proofs.Accepting.{allowed-yes}
 use Rattle.bound.proofs.Bytes.{step-read, split-bytes, row-bytes, tree-bytes}

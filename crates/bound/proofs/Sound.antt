@@ -2,13 +2,12 @@
 use mathlib.Core.Path.{_≡_, refl, sym, ap, subst, _∙_}
 use mathlib.Core.Bool.{Bool, true, false, cond}
 use mathlib.Core.List.{List, [], _∷_, _++_, append-assoc, append-nil}
-use mathlib.Core.Logic.{inl, inr}
 use Prim.Native.Nat.{ℕ, zero, suc, _+_, _≤_, _<_}
 use native.Mathlib.Omega.{arith}
 use lib.Dec.{ltb, leb}
 use lib.IntN.{ℤ, pos, negsuc}
 use lib.ListN.{length, length-append}
-use Rattle.std.proofs.shelf.Tests.{ltb-true, ltb-false, lt-ltb, le-ltb, leb-true, le-leb, cond-true, cond-false}
+use Rattle.std.proofs.shelf.Tests.{ltb-true, ltb-false, le-ltb, leb-true, le-leb, cond-true, cond-false}
 use Rattle.std.proofs.shelf.Sums.{folded-push}
 use Rattle.std.specs.Numbers.{maxZ}
 use Rattle.std.specs.shelf.Lists.{All}
@@ -27,7 +26,7 @@ use Rattle.bound.specs.declared.leaf.Weight.{Weight}
 use Rattle.bound.specs.Tables.{Table}
 use Rattle.bound.specs.Leaves.{after, leafBound}
 use Rattle.bound.specs.Steps.{refuse, and-then, stepAt}
-use Rattle.bound.specs.Checks.{numbered, branching, opened, judged, closing, nextRow, leafStep, leafAt, foundAt, allowed, sides, nodeStep, nodeAt, finished, checked}
+use Rattle.bound.specs.Checks.{branching, opened, judged, closing, nextRow, leafStep, leafAt, foundAt, allowed, sides, nodeStep, nodeAt, finished, checked}
 use Rattle.bound.specs.Layers.{holding}
 use Rattle.bound.specs.Trees.{Tree, leaf, split, Weighs, Rising, Sits, treeBound}
 use Rattle.bound.proofs.Spelling.{SpellsLeaf, Spells}
@@ -148,9 +147,6 @@ node-proved (suc n) t file p b h =
 module _ (t : Table) (file : List ℕ) where
   abbrev ending : ℤ × ℕ → Result ℤ Refusal
   ending b = finished file (b .0) (b .1)
-
-  pub long-checked : 65535 < length file → checked t file ≡ refuse (Record TooLong) 0
-  long-checked long = cond-true _ _ _ (lt-ltb 65535 (length file) long)
 
   module _ (short : length file ≤ 65535) where
     open-checked : checked t file ≡ and-then (nodeAt 64 t file 0) ending

@@ -1,22 +1,17 @@
 -- What the reading of a leaf accepts.
 use mathlib.Core.Path.{_≡_, refl, sym, ap, subst, _∙_}
 use mathlib.Core.Bool.{Bool, true, false, cond, _&&_}
-use mathlib.Core.List.{List, [], _∷_, _++_}
-use Prim.Native.Nat.{ℕ, zero, suc, _+_, _-_, _≤_, _<_}
+use Prim.Native.Nat.{ℕ, _-_, _≤_, _<_}
 use native.Mathlib.Omega.{arith}
-use lib.Dec.{eqb, ltb}
+use lib.Dec.{ltb}
 use lib.IntN.{ℤ, pos, negsuc}
-use lib.ListN.{length}
 use lib.Signed.{ltZ, leZ, _≤ℤ_}
 use Rattle.std.proofs.shelf.Tests.{ltb-true, ltb-false, and-parts, cases-lt}
 use mathlib.Core.Logic.{inl, inr}
 use Rattle.std.proofs.shelf.Signed.{ints}
-use Rattle.std.specs.declared.option.Option.{Option}
 use Rattle.std.specs.declared.option.Option.the-variants.{Some, None}
-use Rattle.std.specs.declared.result.Result.{Result}
-use Rattle.std.specs.declared.result.Result.the-variants.{Ok, Err}
+use Rattle.std.specs.declared.result.Result.the-variants.{Ok}
 use Rattle.bound.specs.declared.faults.Fault.the-variants.{OutsideLimits, NotRising}
-use Rattle.bound.specs.declared.faults.Refusal.{Refusal}
 use Rattle.bound.specs.declared.leaf.Weight.{Weight}
 use Rattle.bound.specs.Tables.{most}
 use Rattle.bound.specs.Checks.{numbered, placed, judged}

@@ -1,5 +1,4 @@
 -- The bound of a leaf, summed in a fixed order. A product or a running sum past ±10^18 leaves none.
-use mathlib.Core.Path.{_≡_}
 use mathlib.Core.Bool.{cond}
 use mathlib.Core.List.{List, [], _∷_}
 use Prim.Native.Nat.{ℕ, zero, suc, _+_}

@@ -1,10 +1,9 @@
 -- Sums of four, and packings as points of the knapsack.
-use mathlib.Core.Path.{_≡_, refl, sym, ap, subst, _∙_}
+use mathlib.Core.Path.{_≡_, sym, subst}
 use mathlib.Core.Bool.{Bool, true, false, cond}
 use mathlib.Core.List.{List}
-use Prim.Native.Nat.{ℕ, zero, suc, _≤_, _<_}
+use Prim.Native.Nat.{ℕ, _≤_}
 use native.Mathlib.Omega.{arith}
-use lib.Dec.{ltb}
 use lib.IntN.{ℤ, pos, _+ℤ_, _*ℤ_}
 use lib.ListN.{getD, replicate}
 use lib.Signed.{_≤ℤ_, leZ-yes}
@@ -20,7 +19,7 @@ use mir.Syntax.{w64}
 use mir.Val.{SFits}
 use Rattle.knapsack.specs.Items.{itemAt}
 use Rattle.knapsack.specs.Knapsack.{knapsack}
-use Rattle.knapsack.specs.Packings.{part, worthOf, loadOf, Fits, Caps}
+use Rattle.knapsack.specs.Packings.{part, worthOf, Fits, Caps}
 
 pub sum-four : (f : ℕ → ℤ) → sumTo 4 f ≡ ((f 0 +ℤ f 1) +ℤ f 2) +ℤ f 3
 unfolding sumTo

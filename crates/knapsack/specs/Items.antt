@@ -1,7 +1,7 @@
 -- The four things that may be packed.
 use mathlib.Core.List.{List, [], _∷_}
 use Prim.Native.Nat.{ℕ}
-use lib.IntN.{ℤ, pos}
+use lib.IntN.{pos}
 use lib.ListN.{getD}
 use Rattle.knapsack.specs.declared.items.Item.{Item}
 

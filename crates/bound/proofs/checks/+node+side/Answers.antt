@@ -1,24 +1,19 @@
 use mathlib.Core.Path.{_≡_, refl, sym, ap, subst, _∙_}
 use mathlib.Core.Bool.{true, false}
-use mathlib.Core.List.{[], _∷_, _++_}
-use Prim.Native.Nat.{ℕ, suc, _+_, _-_, _≤_, _<_}
+use Prim.Native.Nat.{suc, _+_, _-_, _<_}
 use native.Mathlib.Omega.{arith}
 use borrow.Author.Needs.{needs}
-use lib.IntN.{ℤ, pos}
-use lib.ListN.{length, take, length-append}
+use lib.IntN.{pos}
 use mir.Syntax.{w64}
-use mir.Val.{SFits, toZ, ofZ}
 use Rattle.std.specs.Numbers.{maxZ}
 use Rattle.std.proofs.shelf.Results.{err-from-errBy}
 use Rattle.std.proofs.shelf.Signed.{toZ-ofZ}
 use Rattle.std.specs.declared.result.Result.the-variants.{Ok, Err}
 use Rattle.records.specs.Readers.{fileOf, placeOf}
 use Rattle.bound.specs.declared.faults.Fault.the-variants.{TooDeep, SplitBarred}
-use Rattle.bound.specs.declared.fixing.Held.{Held}
-use Rattle.bound.specs.Tables.{Small}
-use Rattle.bound.specs.Layers.{fixed, place, holdAnswer, holdAfter}
+use Rattle.bound.specs.Layers.{fixed, place}
 use Rattle.bound.specs.Steps.{refuse}
-use Rattle.bound.specs.Checks.{foundAt, allowed, nodeAt, OverTree}
+use Rattle.bound.specs.Checks.{allowed, nodeAt, OverTree}
 use Rattle.bound.specs.Layers.{holding}
 use Rattle.bound.specs.Paths.{heldOf, countOf, belowOf, Free, SamePath}
 use Rattle.bound.proofs.Reading.{node-err, node-leaf, node-barred, node-deep, node-off, node-on, node-both}

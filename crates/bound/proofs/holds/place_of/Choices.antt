@@ -1,6 +1,6 @@
 use mathlib.Core.Path.{_≡_}
-use Prim.Native.Nat.{_+_, _≤_}
-use lib.ListN.{length, drop}
+use Prim.Native.Nat.{_+_}
+use lib.ListN.{drop}
 use Rattle.bound.specs.Layers.{place}
 use Rattle.bound.proofs.holds.place_of.Given as given
 

@@ -1,12 +1,12 @@
-use mathlib.Core.Path.{_≡_, sym, ap, _∙_}
+use mathlib.Core.Path.{sym, _∙_}
 use borrow.Author.Needs.{needs}
 use lib.ListN.{getD}
-use lib.IntN.{ℤ, pos}
+use lib.IntN.{pos}
 use mir.Syntax.{w64}
 use mir.Val.{SFits}
 use Rattle.std.proofs.shelf.Signed.{toZ-ofZ}
 use Rattle.bound.specs.declared.leaf.Weight.{Weight}
-use Rattle.bound.specs.Leaves.{each, restOf, takeCoefficient}
+use Rattle.bound.specs.Leaves.{each, takeCoefficient}
 use Rattle.bound.proofs.Steps.{went, each-more, each-stops, each-all}
 use Rattle.bound.proofs.leaf.rest_of.Needs as need
 

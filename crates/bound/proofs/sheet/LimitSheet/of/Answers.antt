@@ -8,8 +8,7 @@ use lib.ListN.{length, length-set}
 use mir.Syntax.{w64}
 use Rattle.std.proofs.shelf.Signed.{toZ-ofZ}
 use borrow.Author.Needs.{needs}
-use mir.Val.{SFits, toZ, ofZ}
-use Rattle.bound.specs.declared.sheet.Line.{Line}
+use mir.Val.{SFits}
 use Rattle.bound.specs.Sheets.{line, lineOf, no-line}
 use Rattle.bound.proofs.Copies.{line-none, copied-more, copied-ordered, copied-low, copied-high, copied-same}
 use Rattle.bound.proofs.sheet.LimitSheet.of.Needs as need
