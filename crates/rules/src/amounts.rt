@@ -54,7 +54,7 @@ pub fn bought_by(buy: Buy, w: usize, p: usize, parts: i32) -> i64
     }
 }
 
-// The volume of product p that an order of `window` sells in window w.
+// The volume of a sell order of `window`, if that is window w.
 pub fn sold_by(window: u8, quantity: u16, w: usize, parts: i32) -> i64
     requires { ⌜ (quantity ≤ 9999) × Within 10000 parts ⌝ }
     ensures { λ r. ⌜ (r ≡ cond (eqb window w) (pos quantity *ℤ parts) (pos 0)) × Within 99990000 r ⌝ }
