@@ -33,6 +33,7 @@ abbrev pub numbered : ℕ → ℤ → Option ℕ
 numbered n (pos k) = cond (ltb k n) (Some k) None
 numbered n (negsuc k) = None
 
+-- the weight of a row that was found; one that is beyond the count is absent
 abbrev pub placed : ℤ → ℕ → Option ℕ → Result Weight Refusal
 placed weight p (Some row) = Ok (record { row = row; weight = weight })
 placed weight p None = refuse Absent p
@@ -43,6 +44,7 @@ judged count next rows row weight p =
     cond (ltb 0 count && ltZ row (pos next)) (refuse NotRising p)
     (cond (leZ (pos 1) weight && leZ weight (pos most)) (placed weight p (numbered rows row)) (refuse OutsideLimits p))
 
+-- a split on a variable that was found, which may not follow a weight
 abbrev pub branching : ℕ → ℕ → Option ℕ → Result Found Refusal
 branching count p (Some v) = cond (ltb 0 count) (refuse SplitBarred p) (Ok (Branch v))
 branching count p None = refuse Absent p
@@ -71,9 +73,11 @@ unfoldable pub leafAt : ℕ → Table → List ℕ → List Weight → ℕ → R
 leafAt zero t file ws p = refuse NotOneTree (length file)
 leafAt (suc n) t file ws p = and-then (stepAt file p) (λ s. leafStep t p (leafAt n t file) ws (s .0) (s .1))
 
+-- what opens the node at p: a split, or a whole leaf with its bound
 abbrev pub foundAt : Table → List ℕ → ℕ → Result (Found × ℕ) Refusal
 foundAt t file p = leafAt (length file) t file [] p
 
+-- whether z is n
 abbrev pub isNat : ℤ → ℕ → Bool
 isNat (pos a) n = eqb a n
 isNat (negsuc a) n = false

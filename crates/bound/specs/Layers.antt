@@ -17,6 +17,7 @@ use Rattle.bound.specs.declared.faults.Refusal.{Refusal}
 use Rattle.bound.specs.declared.fixing.Held.{Held}
 use Rattle.bound.specs.Tables.{Table, Lawful, Small, most}
 
+-- its value is small
 abbrev pub SmallHeld : Held → Type 0
 SmallHeld h = Small (h .value)
 
@@ -40,6 +41,7 @@ fixed t hs =
       side = t .side;
     }
 
+-- the limits stay ordered and small
 ordered-held : (v : ℕ) (hs : List Held) (a b : ℤ) → a ≤ℤ b → heldOr v a hs ≤ℤ heldOr v b hs
 ordered-held v [] a b h = h
 ordered-held v (x ∷ xs) a b h =
@@ -85,9 +87,11 @@ fixed-lawful t hs l all =
 abbrev pub holding : Table → ℕ → ℤ → Table
 holding t v z = fixed t (record { variable = v; value = z } ∷ [])
 
+-- what stands where nothing is held
 abbrev pub none-held : Held
 none-held = record { variable = 0; value = pos 0 }
 
+-- all values of a row are small
 abbrev pub SmallRow : List Held → Type 0
 SmallRow row = (k : ℕ) → Small (getD row k none-held .value)
 
@@ -108,6 +112,7 @@ place v (h ∷ hs) = cond (eqb (h .variable) v) 0 (1 + place v hs)
 abbrev pub put : List Held → ℕ → Held → List Held
 put hs at h = cond (ltb at (length hs)) (set hs at h) (hs ++ (h ∷ []))
 
+-- what is held once h is
 abbrev pub withHeld : List Held → Held → List Held
 withHeld hs h = put hs (place (h .variable) hs) h
 
@@ -115,6 +120,7 @@ withHeld hs h = put hs (place (h .variable) hs) h
 abbrev pub withoutLast : List Held → List Held
 withoutLast hs = take (length hs - 1) hs
 
+-- h is refused, at its variable
 abbrev pub barred : Fault → Held → Result (Unit {0}) Refusal
 barred f h = Err (record { fault = f; place = h .variable })
 

@@ -8,12 +8,15 @@ use Rattle.bound.specs.declared.fixing.Held.{Held}
 use Rattle.bound.specs.Layers.{place}
 
 module _ {P : Type 0} where
+  -- what is held, in the order in which it was first held
   abbrev pub heldOf : Fixing P → List Held
   heldOf f = take (f .count) (f .row)
 
+  -- how many are held
   abbrev pub countOf : Fixing P → ℕ
   countOf f = f .count
 
+  -- the programme below
   abbrev pub belowOf : Fixing P → P
   belowOf f = f .below .now
 

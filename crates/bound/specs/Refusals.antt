@@ -34,6 +34,7 @@ pub data Path : Type 0 where
   off : ℕ → Path → Path
   on : ℕ → Tree → Path → Path
 
+-- its bytes: those of the weights, of the splits and of the whole 0 sides
 abbrev pub rowsBytes : List Weight → List ℕ
 rowsBytes [] = []
 rowsBytes (w ∷ ws) = encode 9 (pos (w .row) ∷ w .weight ∷ []) ++ rowsBytes ws
@@ -55,6 +56,7 @@ MaySplit t v = (v < t .variables) × (t .whole v ≡ true) × (t .low v ≡ pos 
 abbrev pub Late : List Weight → ℤ → Type 0
 Late ws r = (1 ≤ length ws) × (pos (nextRow ws) ≤ℤ r → ⊥)
 
+-- w is a weight
 abbrev pub InRange : ℤ → Type 0
 InRange w = (pos 1 ≤ℤ w) × (w ≤ℤ pos most)
 
@@ -70,6 +72,7 @@ WrongStep n t ws (Row r w) f =
     ⊎ ((Late ws r → ⊥) × InRange w × Beyond (t .rows) r × (f ≡ Absent)))
 WrongStep n t ws Close f = (leafBound t ws ≡ None) × (f ≡ TooLarge)
 
+-- what is wrong with what was read there
 abbrev pub WrongRecord : ℕ → Table → List Weight → Result Content RecordFault → Fault → Type 0
 WrongRecord n t ws (Ok c) f = WrongStep n t ws (stepOf c) f
 WrongRecord n t ws (Err g) f = f ≡ Record g

@@ -12,9 +12,11 @@ use lib.Signed.{_≤ℤ_, ≤ℤ-refl}
 use Rattle.bound.specs.declared.sheet.Line.{Line}
 use Rattle.bound.specs.Tables.{Table, Lawful, Small}
 
+-- what stands where there is no variable
 abbrev pub no-line : Line
 no-line = record { low = pos 0; high = pos 0; whole = false }
 
+-- the limits and the mark that a table has for v
 abbrev pub lineOf : Table → ℕ → Line
 lineOf t v = record { low = t .low v; high = t .high v; whole = t .whole v }
 
@@ -22,6 +24,7 @@ lineOf t v = record { low = t .low v; high = t .high v; whole = t .whole v }
 abbrev pub line : List Line → ℕ → Line
 line lines v = getD lines v no-line
 
+-- what a sheet's lines keep: low at most high, and both small
 abbrev pub Ordered : List Line → Type 0
 Ordered lines = (v : ℕ) → line lines v .low ≤ℤ line lines v .high
 

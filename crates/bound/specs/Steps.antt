@@ -20,6 +20,7 @@ use Rattle.bound.specs.declared.tree.Step.the-variants.{Split, Row, Close}
 abbrev pub treeKinds : List Kind
 treeKinds = record { number = 8; fields = 1 } ∷ record { number = 9; fields = 2 } ∷ record { number = 10; fields = 0 } ∷ []
 
+-- the fault f at the place p
 abbrev pub refuse : {A : Type 0} → Fault → ℕ → Result A Refusal
 refuse f p = Err (record { fault = f; place = p })
 
@@ -28,9 +29,11 @@ abbrev pub and-then : {A B : Type 0} → Result A Refusal → (A → Result B Re
 and-then (Ok x) f = f x
 and-then (Err e) f = Err e
 
+-- what a record says, by its kind
 abbrev pub stepOf : Content → Step
 stepOf c = cond (eqb 8 (c .kind)) (Split (getD (c .fields) 0 (pos 0))) (cond (eqb 9 (c .kind)) (Row (getD (c .fields) 0 (pos 0)) (getD (c .fields) 1 (pos 0))) Close)
 
+-- a record's step, and the place after it
 abbrev pub stepped : ℕ → Result Content RecordFault → Result (Step × ℕ) Refusal
 stepped p (Ok c) = Ok (stepOf c, p + c .size)
 stepped p (Err f) = refuse (Record f) p
