@@ -11,3 +11,4 @@ pub mod Returning
 pub mod Admitting
 pub mod Writing
 pub mod Outcomes
+pub mod Figures

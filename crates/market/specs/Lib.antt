@@ -8,3 +8,4 @@ pub mod Lawful
 pub mod Reading
 pub mod Wrong
 pub mod Files
+pub mod Figures

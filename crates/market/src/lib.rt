@@ -20,5 +20,6 @@ pub use entries::Window;
 pub use faults::Fault;
 pub use faults::Refusal;
 pub use faults::RefusalFromRecords;
+pub use laws::figure;
 pub use laws::files_in_order;
 pub use laws::one_outcome;
