@@ -4,14 +4,14 @@ use mathlib.Core.Logic.{_⊎_, inl, inr, ⊎-elim}
 use Prim.Native.Nat.{ℕ, zero, suc, _+_, _*_, _/_, _%_, _<_, _≤_}
 use native.Mathlib.Omega.{arith}
 use lib.ListN.{length}
-use lib.IntN.{ℤ, pos, _*ℤ_}
+use lib.IntN.{ℤ, pos}
 use lib.Signed.{_≤ℤ_, _<ℤ_}
 use Rattle.std.proofs.shelf.Signed.{ints, by-ltZ}
 use Rattle.std.proofs.shelf.Tests.{cases-eq}
-use Rattle.market.specs.Market.{Market, buyAt, basketAt}
+use Rattle.market.specs.Market.{Market, basketAt}
 use Rattle.rules.specs.Clearings.{KeepsOrders, bought, sold}
 use Rattle.rules.specs.Prices.{KeepsPrices, loopSurplus}
-use Rattle.rules.specs.Broken.{Broken, Unbroken, FirstOf}
+use Rattle.rules.specs.Broken.{Unbroken, FirstOf}
 use Rattle.rules.specs.declared.faults.Rule.the-variants.{WholeParents, ChildrenUnderParents, SubstitutesUnderParents, Families, Loops, Units, Balance, ExtraSurplus, BasketSurplus, BuyPrices}
 
 at-most : (a b : ℤ) → (b <ℤ a → ⊥) → a ≤ℤ b

@@ -1,19 +1,15 @@
 -- The orders of a lawful market are of their sizes.
-use mathlib.Core.Path.{_≡_, refl, sym, subst}
 use Prim.Native.Nat.{ℕ, _<_, _≤_}
 use native.Mathlib.Omega.{arith}
 use lib.ListN.{length}
-use lib.IntN.{ℤ, pos}
+use lib.IntN.{ℤ}
 use Rattle.std.proofs.shelf.Signed.{ints}
 use Rattle.numbers.specs.Sums.{Within}
 use Rattle.market.specs.declared.entries.Service.{Service}
 use Rattle.market.specs.declared.entries.Service.the-variants.{Response, Balancing, Quick, Slow}
-use Rattle.market.specs.declared.entries.Buy.{Buy}
-use Rattle.market.specs.declared.entries.Basket.{Basket}
-use Rattle.market.specs.declared.entries.Extra.{Extra}
 use Rattle.market.specs.Services.{terms}
 use Rattle.market.specs.Market.{Market, windowAt, buyAt, basketAt, extraAt}
-use Rattle.market.specs.Lawful.{Lawful, GoodPrice, GoodQuantities}
+use Rattle.market.specs.Lawful.{Lawful, GoodPrice}
 use Rattle.rules.specs.Sizes.{SmallBuy, SmallBasket, SmallExtra}
 
 few-products : (s : Service) → terms s .products ≤ 6

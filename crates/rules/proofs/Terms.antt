@@ -1,5 +1,5 @@
 -- What an order's own numbers add, or tell, is the term of the market's sum, or the market's rule.
-use mathlib.Core.Path.{_≡_, refl, sym, ap, ap₂, subst, _∙_}
+use mathlib.Core.Path.{_≡_, sym, ap, ap₂, subst, _∙_}
 use mathlib.Core.Bool.{Bool, cond, _&&_}
 use mathlib.Core.Logic.{⊎-elim}
 use Prim.Native.Nat.{ℕ, _+_, _<_}
@@ -18,7 +18,7 @@ use Rattle.market.specs.declared.entries.Extra.{Extra}
 use Rattle.market.specs.declared.entries.Window.{Window}
 use Rattle.market.specs.declared.entries.Role.the-variants.{Child}
 use Rattle.market.specs.Market.{Market, windowAt, buyAt, basketAt, extraAt, isSubstitute, Share}
-use Rattle.rules.specs.Clearings.{Exclude, substitutePart, familyPart, boughtBy, soldByParent, soldByExtra}
+use Rattle.rules.specs.Clearings.{substitutePart, familyPart, boughtBy, soldByParent, soldByExtra}
 use Rattle.rules.specs.Broken.{ChildAbove, LoopUneven, FirstOf, Clash}
 use Rattle.rules.proofs.Compared.{cast, casts-parts}
 

@@ -1,5 +1,5 @@
 -- What an order's own numbers are worth is its term in the market's welfare and cost.
-use mathlib.Core.Path.{_≡_, refl, sym, ap, ap₂, subst, _∙_}
+use mathlib.Core.Path.{_≡_, ap, ap₂, subst, _∙_}
 use mathlib.Core.List.{List}
 use Prim.Native.Nat.{ℕ, _+_, _*_, _≤_}
 use native.Mathlib.Nat.{mul-le-mul-right}
@@ -7,12 +7,12 @@ use native.Mathlib.Omega.{arith}
 use lib.IntN.{ℤ, pos, _*ℤ_}
 use lib.ListN.{getD}
 use Rattle.std.proofs.shelf.Signed.{ints}
-use Rattle.numbers.specs.Sums.{Within, Term, Summed, sumTo}
+use Rattle.numbers.specs.Sums.{Within, Term, Summed}
 use Rattle.market.specs.declared.entries.Buy.{Buy}
 use Rattle.market.specs.declared.entries.Basket.{Basket}
 use Rattle.market.specs.declared.entries.Extra.{Extra}
 use Rattle.market.specs.Market.{Market, buyAt, basketAt, extraAt}
-use Rattle.rules.specs.Clearings.{worth, productWorth, sellWorth, buyWorth, parentWorth, extraWorth, extraWindow}
+use Rattle.rules.specs.Clearings.{worth, productWorth, sellWorth, buyWorth, parentWorth, extraWorth}
 use Rattle.rules.specs.Prices.{priceOf, productPayment, payment, parentPayment, extraPayment}
 use Rattle.rules.proofs.Compared.{cast, casts, casts-parts}
 

@@ -1,9 +1,8 @@
 // What one order adds to a sum, from its numbers alone. Each amount has a size that no sum of a market's amounts outgrows.
 ghost use mathlib.Core.Path.{_≡_};
 ghost use mathlib.Core.Bool.{cond, _&&_};
-ghost use Prim.Native.Nat.{ℕ, _*_, _<_, _≤_};
+ghost use Prim.Native.Nat.{_*_, _≤_};
 ghost use lib.Dec.{eqb};
-ghost use lib.ListN.{getD};
 ghost use lib.IntN.{pos, _*ℤ_, _-ℤ_};
 ghost use Rattle.numbers.specs.Sums.{Within};
 ghost use Rattle.market.specs.Market.{isSubstitute};

@@ -2,7 +2,7 @@
 ghost use mathlib.Core.Path.{_≡_};
 ghost use Prim.Native.Nat.{_<_, _≤_};
 ghost use lib.ListN.{length};
-ghost use Rattle.market.specs.Market.{windowAt, buyAt, basketAt, extraAt};
+ghost use Rattle.market.specs.Market.{buyAt, basketAt, extraAt};
 ghost use Rattle.market.specs.View.{closedOf};
 ghost use Rattle.numbers.specs.Sums.{Within};
 ghost use Rattle.rules.specs.Prices.{priceOf};

@@ -1,5 +1,4 @@
 // What sell orders gain at the prices of a clearing.
-ghost use mathlib.Core.Path.{_≡_};
 ghost use Prim.Native.Nat.{_<_};
 ghost use lib.ListN.{length};
 ghost use Rattle.numbers.specs.Sums.{Summed, Term, Within};

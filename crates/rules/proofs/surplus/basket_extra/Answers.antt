@@ -1,5 +1,3 @@
-use mathlib.Core.Path.{_∙_, ap, sym}
-use Rattle.market.specs.declared.entries.Extra.{Extra}
 use Rattle.market.specs.View.{closedOf}
 use Rattle.rules.specs.Scratch.{partsIn, pricesIn}
 use Rattle.rules.proofs.Surpluses.{other-basket, own-basket}

@@ -1,9 +1,9 @@
-use mathlib.Core.Path.{_≡_, sym, ap, subst, _∙_}
+use mathlib.Core.Path.{sym, ap, subst, _∙_}
 use Prim.Native.Nat.{_≤_}
 use Rattle.market.proofs.Books.{closed-lawful}
 use Rattle.market.specs.declared.entries.Basket.{Basket}
 use Rattle.market.specs.declared.entries.Window.{Window}
-use Rattle.market.specs.Market.{windowAt, basketAt}
+use Rattle.market.specs.Market.{windowAt}
 use Rattle.market.specs.View.{closedOf}
 use Rattle.rules.proofs.units.window_of.Needs as need
 

@@ -1,4 +1,3 @@
-use native.Mathlib.Omega.{arith}
 use Rattle.market.specs.View.{closedOf}
 use Rattle.rules.specs.Scratch.{partsIn, pricesIn}
 use Rattle.rules.proofs.Verdicts.{clear-none, clear-next, refused-at, accepted-all}
