@@ -1,6 +1,6 @@
 -- A market file: what its bytes are, and what it does to a market.
 use mathlib.Core.Path.{_≡_}
-use mathlib.Core.Bool.{true, false, cond}
+use mathlib.Core.Bool.{cond}
 use mathlib.Core.List.{List, [], _∷_, _++_, map}
 use Prim.Native.Nat.{ℕ, _+_, _<_, _≤_}
 use lib.IntN.{ℤ, pos}
@@ -21,9 +21,7 @@ use Rattle.market.specs.declared.faults.Fault.the-variants.{Record}
 use Rattle.market.specs.declared.faults.Refusal.{Refusal}
 use Rattle.market.specs.Lawful.{Lawful}
 use Rattle.market.specs.Market.{Market, put}
-use Rattle.market.specs.Reading.{entryIn, limits}
 use Rattle.market.specs.Services.{terms}
-use Rattle.market.specs.Tests.{absent}
 use Rattle.market.specs.Wrong.{Faulty}
 
 -- Windows, buys, baskets, children and substitutes, with how many fields each has.
@@ -56,11 +54,6 @@ bytesOf (e ∷ es) = encode (kindIn e) (spelt e) ++ bytesOf es
 abbrev pub Grows : Market → List Entry → Market → Type 0
 Grows m [] n = n ≡ m
 Grows m (e ∷ es) n = Lawful (put m e) × Grows (put m e) es n
-
--- What one record does: its entry is put after the others, or it is at fault and nothing changes.
-abbrev pub Took : Market → Content → Result (Unit {0}) Fault → Market → Type 0
-Took m c (Ok x) after = (limits c ≡ true) × (absent m (entryIn c) ≡ false) × (after ≡ put m (entryIn c))
-Took m c (Err f) after = Faulty m c f × (after ≡ m)
 
 -- What stands next is no record, or one that is at fault after the market.
 abbrev pub Stops : Market → Result Content RecordFault → Fault → Type 0

@@ -7,5 +7,6 @@ pub mod View
 pub mod Lawful
 pub mod Reading
 pub mod Wrong
+pub mod Taken
 pub mod Files
 pub mod Figures
