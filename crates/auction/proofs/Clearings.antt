@@ -1,16 +1,15 @@
 -- A clearing that keeps the rules on orders is a point of the acceptance programme.
 use mathlib.Core.Path.{_≡_, refl, sym, ap, subst, _∙_}
-use mathlib.Core.Bool.{Bool, true, false, cond, not, _&&_}
+use mathlib.Core.Bool.{Bool, true, false, not, _&&_}
 use mathlib.Core.Logic.{_⊎_, inl, inr, ⊎-elim}
-use Prim.Native.Nat.{ℕ, zero, suc, _+_, _-_, _*_, _/_, _%_, _≤_, _<_}
+use Prim.Native.Nat.{ℕ, _+_, _-_, _*_, _/_, _%_, _≤_, _<_}
 use native.Mathlib.Omega.{arith}
 use lib.Dec.{eqb, ltb, leb}
 use lib.ListN.{length}
-use lib.IntN.{ℤ, pos, _+ℤ_, _*ℤ_, negℤ, zero-*ℤ}
-use lib.Signed.{_≤ℤ_, _<ℤ_}
+use lib.IntN.{ℤ, pos, _*ℤ_, zero-*ℤ}
+use lib.Signed.{_≤ℤ_}
 use Rattle.std.proofs.shelf.Signed.{ints}
 use Rattle.std.proofs.shelf.Tests.{cases-lt, cond-both, and-parts, ltb-true, leb-true, eqb-true, eqb-false, not-true, lt-ltb, le-ltb}
-use Rattle.numbers.specs.Sums.{sumTo}
 use Rattle.numbers.proofs.Integers.{one-mul}
 use Rattle.numbers.proofs.Sums.{sum-lone}
 use Rattle.bound.specs.Points.{Point}
@@ -20,7 +19,7 @@ use Rattle.rules.specs.Clearings.{Parts, Clearing, KeepsOrders, Covers}
 use Rattle.auction.specs.Acceptance.{acceptance, rowAt, coefficients, sideOf, oneIf, spread, entered, first, stands, startOf, looped}
 use Rattle.auction.specs.declared.rows.Row.the-variants.{Line, Child, Substitutes, AtMostFirst, AtLeastFirst, Unit, Zero}
 use Rattle.auction.proofs.Entries.{child-is}
-use Rattle.auction.proofs.Spread.{over, spread-sum, buy-spread, basket-spread, extra-spread}
+use Rattle.auction.proofs.Spread.{spread-sum, buy-spread, basket-spread, extra-spread}
 use Rattle.auction.proofs.RowSums.{line-over, child-over, substitutes-over, family-over, at-most-over, at-least-over, unit-over, zero-over}
 use Rattle.auction.proofs.Places.{at-each}
 use Rattle.auction.proofs.Points.{Keeps, first-le, first-ring}

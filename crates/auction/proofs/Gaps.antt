@@ -1,6 +1,6 @@
 -- What a bound of a programme says of welfare and cost.
 use mathlib.Core.Path.{_≡_, sym, ap, _∙_}
-use Prim.Native.Nat.{ℕ, _≤_}
+use Prim.Native.Nat.{ℕ}
 use native.Mathlib.Omega.{arith}
 use lib.IntN.{ℤ, pos, negℤ, _+ℤ_, _-ℤ_, _*ℤ_, *ℤ-comm}
 use lib.Signed.{_≤ℤ_}
@@ -9,13 +9,8 @@ use Rattle.std.specs.declared.result.Result.{Result}
 use Rattle.std.specs.declared.result.Result.the-variants.{Ok, Err}
 use Rattle.std.proofs.shelf.Signed.{ints}
 use Rattle.numbers.proofs.Integers.{mul-add, mul-assoc}
-use Rattle.bound.specs.Points.{Bounds}
-use Rattle.market.specs.Market.{Market}
-use Rattle.market.specs.Lawful.{Lawful}
-use Rattle.rules.specs.Clearings.{Clearing, KeepsOrders, welfare}
-use Rattle.rules.specs.Prices.{PriceList, KeepsPrices, cost}
-use Rattle.auction.specs.Acceptance.{acceptance}
-use Rattle.auction.specs.Pricing.{pricing}
+use Rattle.rules.specs.Clearings.{welfare}
+use Rattle.rules.specs.Prices.{cost}
 use Rattle.auction.specs.Theorems.{WelfareStaysBelow, CostsStayAbove}
 use Rattle.auction.proofs.Clearings.{point}
 use Rattle.auction.proofs.Worth.{objective-is}

@@ -1,12 +1,11 @@
 -- Which row stands at which number.
-use mathlib.Core.Path.{_≡_, refl, sym, ap, ap₂, subst, _∙_}
-use mathlib.Core.Bool.{Bool, true, false, cond, not, _&&_}
-use mathlib.Core.Logic.{_⊎_, inl, inr, ⊎-elim}
-use Prim.Native.Nat.{ℕ, zero, suc, _+_, _-_, _*_, _/_, _%_, _≤_, _<_}
+use mathlib.Core.Path.{_≡_, ap, ap₂, _∙_}
+use mathlib.Core.Bool.{true, cond, not}
+use Prim.Native.Nat.{ℕ, _+_, _-_, _*_, _/_, _%_, _≤_, _<_}
 use native.Mathlib.Omega.{arith}
-use lib.Dec.{eqb, ltb, leb}
+use lib.Dec.{ltb}
 use lib.ListN.{length}
-use Rattle.std.proofs.shelf.Tests.{cases-lt, cases-eq, cond-true, cond-false, cond-both, lt-ltb, le-ltb, eq-eqb, ne-eqb, ltb-true, ltb-false, cases-bool, and-from}
+use Rattle.std.proofs.shelf.Tests.{cond-true, cond-false, cond-both, lt-ltb, le-ltb, ne-eqb, ltb-true, ltb-false, and-from}
 use Rattle.market.specs.Market.{Market, basketAt, extraAt, isChild}
 use Rattle.auction.specs.Acceptance.{rowAt, childRow, substitutesRow, loopRow, unitRow, looped}
 use Rattle.auction.specs.declared.rows.Row.{Row}

@@ -1,15 +1,14 @@
 -- The points of the price programme are the price lists that keep the price rules.
-use mathlib.Core.Path.{_≡_, refl, sym, ap, ap₂, subst, _∙_}
+use mathlib.Core.Path.{_≡_, refl, sym, ap, subst, _∙_}
 use mathlib.Core.Bool.{Bool, true, false, cond, not, _&&_}
-use mathlib.Core.Logic.{_⊎_, inl, inr, ⊎-elim}
-use Prim.Native.Nat.{ℕ, zero, suc, _+_, _-_, _*_, _/_, _%_, _≤_, _<_}
+use Prim.Native.Nat.{ℕ, _+_, _*_, _/_, _%_, _≤_, _<_}
 use native.Mathlib.Omega.{arith}
 use lib.Dec.{eqb, ltb}
-use lib.ListN.{length, getD}
-use lib.IntN.{ℤ, pos, negsuc, _+ℤ_, _-ℤ_, _*ℤ_, negℤ}
+use lib.ListN.{length}
+use lib.IntN.{ℤ, pos, _*ℤ_}
 use lib.Signed.{ltZ, _≤ℤ_, _<ℤ_}
 use Rattle.std.proofs.shelf.Signed.{ints}
-use Rattle.std.proofs.shelf.Tests.{cond-true, cond-false, cond-both, lt-ltb, le-ltb, ltb-true, ltb-false, eqb-true, eqb-false, and-from, and-parts, and-left, and-right, not-true, cases-lt}
+use Rattle.std.proofs.shelf.Tests.{cond-true, cond-both, lt-ltb, le-ltb, ltb-true, ltb-false, eqb-true, eqb-false, and-parts, and-left, not-true}
 use Rattle.numbers.specs.Sums.{sumTo}
 use Rattle.numbers.specs.Searches.{least}
 use Rattle.numbers.proofs.Integers.{sign-in, sign-out}
@@ -18,11 +17,11 @@ use Rattle.bound.specs.Points.{Point}
 use Rattle.market.specs.declared.entries.Service.{Service}
 use Rattle.market.specs.declared.entries.Service.the-variants.{Response, Balancing, Quick, Slow}
 use Rattle.market.specs.Services.{terms}
-use Rattle.market.specs.Market.{Market, windowAt, buyAt, basketAt, extraAt}
+use Rattle.market.specs.Market.{Market, windowAt, buyAt, basketAt}
 use Rattle.market.specs.Lawful.{Lawful}
 use Rattle.rules.specs.Prices.{PriceList, KeepsPrices, loopSurplus}
 use Rattle.auction.specs.Acceptance.{first}
-use Rattle.auction.specs.Pricing.{pricing, priceRow, priceNumbers, priceSide, priced, onLines}
+use Rattle.auction.specs.Pricing.{pricing, priceRow, priceNumbers, priceSide, onLines}
 use Rattle.auction.specs.declared.rows.PriceRow.{PriceRow}
 use Rattle.auction.specs.declared.rows.PriceRow.the-variants.{Extra, Basket, Loop, Buy, Zero}
 use Rattle.auction.proofs.Points.{first-le, first-ring}

@@ -1,24 +1,22 @@
 -- What each row of the price programme comes to, in the surpluses of the rules; which row stands at which number.
-use mathlib.Core.Path.{_≡_, refl, sym, ap, ap₂, subst, _∙_}
-use mathlib.Core.Bool.{Bool, true, false, cond, not, _&&_}
-use mathlib.Core.List.{List}
-use Prim.Native.Nat.{ℕ, zero, suc, _+_, _-_, _*_, _≤_, _<_}
+use mathlib.Core.Path.{_≡_, ap, ap₂, _∙_}
+use mathlib.Core.Bool.{true, false, cond, not}
+use Prim.Native.Nat.{ℕ, _+_, _-_, _*_, _≤_, _<_}
 use native.Mathlib.Omega.{arith}
 use lib.Dec.{eqb, ltb}
 use lib.ListN.{length, getD}
 use lib.IntN.{ℤ, pos, _+ℤ_, _-ℤ_, _*ℤ_, negℤ, *ℤ-comm}
-use lib.Signed.{ltZ, _≤ℤ_, _<ℤ_}
-use Rattle.std.proofs.shelf.Signed.{ints}
+use lib.Signed.{ltZ}
 use Rattle.std.proofs.shelf.Tests.{cond-true, cond-false, cond-both, lt-ltb, le-ltb, ltb-true, ltb-false, eq-eqb, ne-eqb, and-from}
 use Rattle.numbers.specs.Sums.{sumTo}
 use Rattle.numbers.proofs.Sums.{sum-ext}
 use Rattle.market.specs.Market.{Market, buyAt, basketAt, extraAt}
 use Rattle.market.specs.Lawful.{Lawful}
 use Rattle.rules.specs.Clearings.{extraWindow}
-use Rattle.rules.specs.Prices.{surplus, parentSurplus, extraSurplus, basketSurplus, loopSurplus}
+use Rattle.rules.specs.Prices.{parentSurplus, extraSurplus, basketSurplus, loopSurplus}
 use Rattle.auction.specs.Orders.{buyLine, basketOn, extraOn, basketValue, extraValue}
 use Rattle.auction.specs.Acceptance.{first}
-use Rattle.auction.specs.Pricing.{parentSum, extraSum, basketSum, loopSum, ofBasket, ofLoop, extraRow, basketRow, buyRow, priceRow, priceNumbers, priceSide}
+use Rattle.auction.specs.Pricing.{parentSum, extraSum, basketSum, loopSum, extraRow, basketRow, buyRow, priceRow, priceNumbers, priceSide}
 use Rattle.auction.specs.declared.rows.Measure.the-variants.{On, Value}
 use Rattle.auction.specs.declared.rows.PriceRow.{PriceRow}
 use Rattle.auction.specs.declared.rows.PriceRow.the-variants.{Extra, Basket, Loop, Buy, Zero}

@@ -1,11 +1,11 @@
 -- What each kind of row sums to, in the sums of the rules.
 use mathlib.Core.Path.{_≡_, refl, sym, ap, ap₂, _∙_}
 use mathlib.Core.Bool.{Bool, true, false, cond, _&&_}
-use mathlib.Core.List.{List, []}
+use mathlib.Core.List.{List}
 use mathlib.Core.Logic.{⊎-elim}
 use Prim.Native.Nat.{ℕ, _+_, _*_, _/_, _%_, _≤_, _<_}
 use native.Mathlib.Omega.{arith}
-use lib.Dec.{eqb, ltb}
+use lib.Dec.{eqb}
 use lib.ListN.{length, getD}
 use lib.IntN.{ℤ, pos, negsuc, _+ℤ_, _*ℤ_, negℤ, zero-*ℤ}
 use Rattle.std.proofs.shelf.Signed.{ints}
@@ -21,7 +21,7 @@ use Rattle.market.specs.declared.entries.Extra.{Extra}
 use Rattle.market.specs.Market.{Market, buyAt, basketAt, extraAt, isSubstitute}
 use Rattle.market.specs.Lawful.{Lawful}
 use Rattle.rules.specs.Clearings.{bought, sold, substituteParts, familyParts, extraWindow}
-use Rattle.auction.specs.Orders.{buyLine, buyOn, sellOn, basketOn, extraOn}
+use Rattle.auction.specs.Orders.{buyOn, sellOn, basketOn, extraOn}
 use Rattle.auction.specs.Acceptance.{coefficients, only, oneIf, first, stands}
 use Rattle.auction.specs.declared.rows.Row.the-variants.{Line, Child, Substitutes, Family, AtMostFirst, AtLeastFirst, Unit, Zero}
 use Rattle.auction.proofs.Entries.{buy-product, extra-basket}

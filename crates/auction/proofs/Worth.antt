@@ -1,21 +1,20 @@
 -- The objective of the acceptance programme is the welfare.
-use mathlib.Core.Path.{_≡_, refl, sym, ap, ap₂, _∙_}
+use mathlib.Core.Path.{_≡_, sym, ap, _∙_}
 use mathlib.Core.List.{List}
-use Prim.Native.Nat.{ℕ, _+_, _≤_}
+use Prim.Native.Nat.{ℕ, _+_}
 use native.Mathlib.Omega.{arith}
 use lib.ListN.{length, getD}
-use lib.IntN.{ℤ, pos, _+ℤ_, _-ℤ_, _*ℤ_, negℤ, zero-*ℤ}
+use lib.IntN.{ℤ, pos, _*ℤ_, negℤ, zero-*ℤ}
 use Rattle.std.proofs.shelf.Signed.{ints}
 use Rattle.std.proofs.shelf.Lists.{getD-past}
 use Rattle.numbers.specs.Sums.{sumTo}
-use Rattle.numbers.proofs.Integers.{mul-add}
 use Rattle.numbers.proofs.Sums.{sum-ext, sum-short}
 use Rattle.numbers.proofs.Weighted.{weighted-neg, sum-times}
 use Rattle.bound.specs.Points.{objectiveAt}
 use Rattle.market.specs.declared.entries.Buy.{Buy}
 use Rattle.market.specs.declared.entries.Basket.{Basket}
 use Rattle.market.specs.declared.entries.Extra.{Extra}
-use Rattle.market.specs.Market.{Market, buyAt, basketAt, extraAt}
+use Rattle.market.specs.Market.{Market, basketAt, extraAt}
 use Rattle.market.specs.Lawful.{Lawful}
 use Rattle.rules.specs.Clearings.{welfare, sellWorth}
 use Rattle.auction.specs.Orders.{total, orderValue, buyValue, basketValue, extraValue}

@@ -1,7 +1,6 @@
 -- The acceptance programme of a market: its table, row by row.
 -- Buy i is variable i, the parent of basket b is 64 + b, child or substitute k is 160 + k.
-use mathlib.Core.Path.{_≡_}
-use mathlib.Core.Bool.{Bool, true, false, cond, not, _&&_}
+use mathlib.Core.Bool.{Bool, cond, not, _&&_}
 use Prim.Native.Nat.{ℕ, _+_, _-_, _/_, _%_}
 use lib.Dec.{eqb, ltb, leb}
 use lib.ListN.{length}

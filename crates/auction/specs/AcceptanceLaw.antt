@@ -1,24 +1,23 @@
 -- The acceptance table is lawful: its numbers are small, and 0 beyond the counts.
-use mathlib.Core.Path.{_≡_, refl, sym, ap, _∙_}
-use mathlib.Core.Bool.{Bool, true, false, cond, _&&_}
-use Prim.Native.Nat.{ℕ, _+_, _-_, _<_, _≤_}
+use mathlib.Core.Path.{_≡_, refl, ap, _∙_}
+use mathlib.Core.Bool.{Bool, true, false, cond}
+use Prim.Native.Nat.{ℕ, _-_, _≤_}
 use native.Mathlib.Omega.{arith}
 use lib.Dec.{eqb, ltb, leb}
 use lib.ListN.{length}
-use lib.IntN.{ℤ, pos, negsuc, negℤ, _+ℤ_}
+use lib.IntN.{ℤ, pos, negsuc, _+ℤ_}
 use lib.Signed.{_≤ℤ_}
 use Rattle.std.proofs.shelf.Signed.{ints}
 use Rattle.std.proofs.shelf.Tests.{cond-both, cond-false, le-ltb, and-right}
 use Rattle.numbers.specs.Sums.{Within}
-use Rattle.bound.specs.Tables.{Small}
 use Rattle.bound.specs.Tables as tables
-use Rattle.market.specs.Market.{Market, extraAt, isChild}
+use Rattle.market.specs.Market.{Market, extraAt}
 use Rattle.market.specs.Lawful.{Lawful}
 use Rattle.auction.specs.declared.rows.Measure.the-variants.{On, Value}
 use Rattle.auction.specs.declared.rows.Row.{Row}
 use Rattle.auction.specs.declared.rows.Row.the-variants.{Line, Child, Substitutes, Family, AtMostFirst, AtLeastFirst, Unit, Zero}
 use Rattle.auction.specs.Orders.{buyOn}
-use Rattle.auction.specs.Acceptance.{Numbers, spread, only, oneIf, first, stands, coefficients, sideOf, rowAt, unitRow, entered, values, acceptance}
+use Rattle.auction.specs.Acceptance.{Numbers, spread, only, oneIf, first, stands, coefficients, sideOf, rowAt, entered, values, acceptance}
 use Rattle.auction.specs.Sizes.{small, wider, within-pos, within-neg, within-zero, within-if, within-add, buy-on-within, buy-value-within, parent-measure-within, extra-measure-within}
 
 past-spread : (p : Numbers) (v : ℕ) → 256 ≤ v → spread p v ≡ pos 0

@@ -6,3 +6,4 @@ pub mod AcceptanceLaw
 pub mod PricingLaw
 pub mod Views
 pub mod Theorems
+pub mod Figures

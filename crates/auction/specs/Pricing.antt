@@ -1,5 +1,4 @@
 -- The price programme of a market with the parts X: its table, row by row. Its variables are the lines.
-use mathlib.Core.Path.{_≡_}
 use mathlib.Core.Bool.{Bool, false, cond, not, _&&_}
 use Prim.Native.Nat.{ℕ, _+_, _-_, _/_, _%_, _<_, _≤_}
 use lib.Dec.{eqb, ltb}

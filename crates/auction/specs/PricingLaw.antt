@@ -1,7 +1,7 @@
 -- The price table is lawful, for parts of at most 10,000.
-use mathlib.Core.Path.{_≡_, refl, sym, ap, _∙_}
-use mathlib.Core.Bool.{Bool, true, false, cond, not, _&&_}
-use Prim.Native.Nat.{ℕ, _+_, _-_, _/_, _%_, _<_, _≤_}
+use mathlib.Core.Path.{_≡_, refl, ap, _∙_}
+use mathlib.Core.Bool.{Bool, true, false, cond, _&&_}
+use Prim.Native.Nat.{ℕ, _+_, _-_, _/_, _<_, _≤_}
 use native.Mathlib.Omega.{arith}
 use lib.Dec.{eqb, ltb}
 use lib.ListN.{length}
@@ -10,11 +10,10 @@ use lib.Signed.{ltZ, _≤ℤ_}
 use Rattle.std.proofs.shelf.Signed.{ints}
 use Rattle.std.proofs.shelf.Tests.{cond-both, cond-false, le-ltb, ltb-true, and-left}
 use Rattle.numbers.specs.Sums.{Within}
-use Rattle.bound.specs.Tables.{Small}
 use Rattle.bound.specs.Tables as tables
 use Rattle.market.specs.Services.{terms}
 use Rattle.market.specs.declared.entries.Service.{Service}
-use Rattle.market.specs.Market.{Market, windowAt, buyAt, basketAt}
+use Rattle.market.specs.Market.{Market, windowAt, basketAt}
 use Rattle.market.specs.Lawful.{Lawful}
 use Rattle.auction.specs.declared.rows.Measure.the-variants.{On, Value}
 use Rattle.auction.specs.declared.rows.PriceRow.{PriceRow}

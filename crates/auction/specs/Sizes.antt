@@ -1,15 +1,14 @@
 -- How large the numbers of the two tables are.
-use mathlib.Core.Path.{_≡_, refl, sym, ap, subst, _∙_}
+use mathlib.Core.Path.{_≡_, sym, ap, subst}
 use mathlib.Core.Bool.{Bool, true, false, cond}
 use mathlib.Core.List.{List}
 use mathlib.Core.Logic.{⊎-elim}
-use Prim.Native.Nat.{ℕ, _+_, _-_, _*_, _/_, _%_, _<_, _≤_}
+use Prim.Native.Nat.{ℕ, _+_, _*_, _/_, _%_, _<_, _≤_}
 use native.Mathlib.Nat.{mul-le-mul-right}
 use native.Mathlib.Omega.{arith}
-use lib.Dec.{eqb, ltb}
+use lib.Dec.{eqb}
 use lib.ListN.{length, getD}
-use lib.IntN.{ℤ, pos, negsuc, negℤ, _+ℤ_, _*ℤ_}
-use lib.Signed.{_≤ℤ_}
+use lib.IntN.{ℤ, pos, negsuc, negℤ, _+ℤ_}
 use Rattle.std.proofs.shelf.Signed.{ints}
 use Rattle.std.proofs.shelf.Lists.{getD-past}
 use Rattle.std.proofs.shelf.Tests.{cases-lt, cond-both}
@@ -23,12 +22,12 @@ use Rattle.market.specs.declared.entries.Buy.{Buy}
 use Rattle.market.specs.declared.entries.Basket.{Basket}
 use Rattle.market.specs.declared.entries.Extra.{Extra}
 use Rattle.market.specs.Services.{terms}
-use Rattle.market.specs.Market.{Market, windowAt, buyAt, basketAt, extraAt}
-use Rattle.market.specs.Lawful.{Lawful, GoodPrice, GoodQuantities}
+use Rattle.market.specs.Market.{Market, buyAt, basketAt, extraAt}
+use Rattle.market.specs.Lawful.{Lawful, GoodPrice}
 use Rattle.rules.specs.Clearings.{extraWindow}
 use Rattle.auction.specs.declared.rows.Measure.{Measure}
 use Rattle.auction.specs.declared.rows.Measure.the-variants.{On, Value}
-use Rattle.auction.specs.Orders.{buyOn, sellOn, basketOn, extraOn, total, orderValue, buyValue, basketValue, extraValue}
+use Rattle.auction.specs.Orders.{buyOn, sellOn, basketOn, extraOn, total, orderValue, buyValue}
 use Rattle.auction.specs.Pricing.{parentMeasure, extraMeasure, parentSum, extraSum, ofBasket, basketSum, ofLoop, loopSum, marketSum}
 
 pub small : (n : ℕ) (z : ℤ) → n ≤ most → Within n z → Small z

@@ -19,3 +19,4 @@ pub use theorems::costs_stay_above;
 pub use theorems::points_are_clearings;
 pub use theorems::points_are_price_lists;
 pub use theorems::welfare_stays_below;
+pub use theorems::worked_bounds;

@@ -1,4 +1,5 @@
 // What the points of the two programmes are, and what a bound of their objectives says of an auction.
+ghost use Rattle.auction.specs.Figures.{WorkedBounds};
 ghost use Rattle.auction.specs.Theorems.{PointsAreClearings, PointsArePriceLists, WelfareStaysBelow, CostsStayAbove};
 
 // The points of the acceptance programme are the clearings that keep the rules on orders, and its objective is welfare.
@@ -19,4 +20,9 @@ pub fn welfare_stays_below()
 // A bound of the price programme bounds what any price list that keeps the price rules could save.
 pub fn costs_stay_above()
     ensures { λ _. ⌜ CostsStayAbove ⌝ }
+{}
+
+// What three leaves prove of a worked market.
+pub fn worked_bounds()
+    ensures { λ _. ⌜ WorkedBounds ⌝ }
 {}

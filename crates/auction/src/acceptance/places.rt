@@ -77,10 +77,10 @@ fn loop_row(market: &ClosedMarket, b: usize, second: usize) -> Row
 fn unit_row(market: &ClosedMarket, b: usize) -> Row
     ensures { λ r. ⌜ r ≡ unitRow (closedOf (now (market .entry))) b ⌝ }
 {
-    if b < market.basket_count() {
-        return Row::Unit(b);
+    if b >= market.basket_count() {
+        return Row::Zero;
     }
-    Row::Zero
+    Row::Unit(b)
 }
 
 // What the row with a number is about.

@@ -1,5 +1,4 @@
-use borrow.Author.Needs.{needs}
-use mathlib.Core.Path.{_≡_, ap, subst, _∙_}
+use mathlib.Core.Path.{ap, subst, _∙_}
 use lib.IntN.{ℤ}
 use Rattle.bound.specs.Points.{Bounds}
 use Rattle.bound.specs.Checks.{checked}

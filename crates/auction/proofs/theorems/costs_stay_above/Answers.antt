@@ -1,4 +1,3 @@
-use borrow.Author.Needs.{needs}
 use Rattle.auction.proofs.theorems.costs_stay_above.Needs as need
 use Rattle.auction.proofs.Gaps.{costs-above}
 

@@ -1,4 +1,3 @@
-use borrow.Author.Needs.{needs}
 use Rattle.auction.proofs.theorems.points_are_clearings.Needs as need
 use Rattle.auction.proofs.Points.{clearing, keeps-orders}
 use Rattle.auction.proofs.Clearings.{point}

@@ -1,4 +1,3 @@
-use borrow.Author.Needs.{needs}
 use Rattle.auction.proofs.theorems.points_are_price_lists.Needs as need
 use Rattle.auction.proofs.PriceLists.{price-list, keeps-prices, price-point}
 use Rattle.auction.proofs.Costs.{price-objective}

@@ -1,4 +1,3 @@
-use borrow.Author.Needs.{needs}
 use Rattle.auction.proofs.theorems.welfare_stays_below.Needs as need
 use Rattle.auction.proofs.Gaps.{welfare-below}
 

@@ -1,11 +1,7 @@
 use borrow.Author.Needs.{needs}
-use mathlib.Core.Path.{_≡_, refl}
-use Prim.Native.Nat.{_<_, _≤_}
+use Prim.Native.Nat.{_<_}
 use native.Mathlib.Omega.{arith}
-use lib.ListN.{length}
 use Rattle.numbers.proofs.Running.{summed-none, summed-more}
-use Rattle.auction.specs.Pricing.{ofLoop}
-use Rattle.auction.specs.Views.{pricedMarket, heldParts}
 use Rattle.auction.proofs.pricing.PriceProgramme.loop_sum.Needs as need
 
 pub loop-b-holds : need.loop-b-holds
