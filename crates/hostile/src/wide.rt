@@ -1,5 +1,4 @@
 // A programme as wide as one may be, with numbers as great as they may be.
-ghost use mathlib.Core.Path.{_≡_};
 ghost use Rattle.hostile.specs.Wide.{wide, wide-lawful};
 use bound::Programme;
 

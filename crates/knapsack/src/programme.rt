@@ -1,5 +1,4 @@
 // The knapsack as a programme: pack the greatest value that the bag can hold.
-ghost use mathlib.Core.Path.{_≡_};
 ghost use Rattle.std.specs.Vec.{made};
 ghost use Rattle.knapsack.specs.Knapsack.{knapsack, knapsack-lawful};
 ghost use Rattle.knapsack.specs.Packings.{Caps};
