@@ -1,0 +1,10 @@
+pub mod Best
+pub mod Standing
+pub mod Law
+pub mod Clears
+pub mod Faults
+pub mod Steps
+pub mod Past
+pub mod Panel
+pub mod View
+pub mod Played
