@@ -1,0 +1,4 @@
+pub mod Reading
+pub mod Keeping
+pub mod Breaking
+pub mod Proving
