@@ -1,6 +1,7 @@
 #!/usr/bin/env bash
-# All checks: the layout of the sources, the bundled files against the texts that they were made from, and then the
-# proofs, the must-fail edits, the programs' output and the tests, from nothing. The last line is 'N passed, 0 failed'.
+# All checks: the layout of the sources, the bundled files against the texts that they were made from, the misuses that must
+# not compile, and then the proofs, the must-fail edits, the programs' output and the tests, from nothing. The last line is
+# 'N passed, 0 failed'.
 set -euo pipefail
 cd "$(dirname "$0")/.."
 
@@ -23,5 +24,7 @@ cp -r crates tools "$made"
 for file in crates/*/data/*.bin crates/entry_tests/stdout; do
   cmp "$file" "$made/$file"
 done
+
+tools/misuse.sh
 
 rt ci
