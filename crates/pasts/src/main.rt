@@ -1,9 +1,14 @@
 // Makes a table of pasts over a small market, and prints what every file and every call was answered.
 mod files;
+mod ninety;
 mod shows;
 
 use console::Call;
 use files::*;
+use ninety::BALANCED;
+use ninety::DEAREST;
+use ninety::ninety_accepted;
+use ninety::ninety_offers;
 use shows::show_past;
 use std::error::AnyError;
 
@@ -197,12 +202,29 @@ fn show_panels(rt: &LibcRuntime) -> Result<(), AnyError> {
     )
 }
 
+fn show_ninety(rt: &LibcRuntime) -> Result<(), AnyError> {
+    let offers = ninety_offers(rt.alloc())?;
+    let accepted = ninety_accepted(rt.alloc())?;
+    show_past(
+        rt,
+        "ninety baskets",
+        &[offers.as_slice()],
+        &[
+            clearing(accepted.as_slice()),
+            tree(BALANCED),
+            price(DEAREST),
+            PANEL,
+        ],
+    )
+}
+
 fn run(rt: &LibcRuntime) -> Result<(), AnyError> {
     show_markets(rt)?;
     show_clearings(rt)?;
     show_bounds(rt)?;
     show_prices(rt)?;
-    show_panels(rt)
+    show_panels(rt)?;
+    show_ninety(rt)
 }
 
 fn main(rt: LibcRuntime) -> Result<(), AnyError> {
