@@ -1,6 +1,8 @@
 // The two programmes of an auction and what their points are: the acceptance programme of a closed market, whose points
 // are the clearings that keep the rules on orders, and the price programme of a closed market and a held clearing, whose
 // points are the price lists that keep the price rules.
+#![tactic(auto)]
+
 mod acceptance;
 mod bounds;
 mod forms;

@@ -1,5 +1,7 @@
 // The bound check: a linear problem is known only by a programme's answers, and a tree file either proves a bound
 // on every point of the problem, or is refused.
+#![tactic(auto)]
+
 mod arithmetic;
 mod checks;
 mod faults;

@@ -1,4 +1,6 @@
 // The clearing file: parts by variable and prices by line, read into a scratch that the caller lends, and judged.
+#![tactic(auto)]
+
 mod faults;
 mod files;
 mod judges;

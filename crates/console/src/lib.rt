@@ -1,5 +1,7 @@
 // The console of a closed market: it judges clearings, trees and price files, holds the best clearing and the least
 // bounds, and shows the gap that is left.
+#![tactic(auto)]
+
 mod call;
 mod faults;
 mod held;

@@ -1,4 +1,6 @@
 // The panel's line: two amounts in whole pence, rounded up, as text at the start of a lent buffer.
+#![tactic(auto)]
+
 mod line;
 mod rounding;
 

@@ -1,5 +1,7 @@
 // Enters the market files of data/cases.bin, case by case, each into a new book, and prints the answers and how many
 // entries of each kind are kept. What it has to print stands in the file stdout.
+#![tactic(auto)]
+
 mod parts;
 
 use market::{Book, ClosedMarket, Refusal};

@@ -1,4 +1,6 @@
 // Trees made to break the check: as deep and as full as a file may be, and with numbers at the limits.
+#![tactic(auto)]
+
 mod trials;
 mod wide;
 mod writing;

@@ -1,4 +1,6 @@
 // A small knapsack, the best packing, the bound that a tree file proves, and trees that are refused.
+#![tactic(auto)]
+
 mod items;
 mod packing;
 mod programme;

@@ -1,4 +1,6 @@
 // Lists the records of the files that are named in the arguments, so that one can look into a file.
+#![tactic(auto)]
+
 mod fields;
 mod kinds;
 mod lines;

@@ -1,4 +1,6 @@
 // The entries of a market, checked as they come and kept in a book; closing the book makes a market that no longer changes.
+#![tactic(auto)]
+
 mod book;
 mod checks;
 mod closed;

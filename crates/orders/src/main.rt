@@ -1,4 +1,6 @@
 // Shows the market files that are named in the arguments as people read them.
+#![tactic(auto)]
+
 mod names;
 mod shows;
 mod times;

@@ -1,5 +1,7 @@
 // Makes one past of the market, the clearing, the tree and the price file in the folder that it runs in, and prints what
 // each was answered, and the panel line.
+#![tactic(auto)]
+
 mod files;
 mod shows;
 

@@ -1,4 +1,6 @@
 // Makes a table of pasts over a small market, and prints what every file and every call was answered.
+#![tactic(auto)]
+
 mod files;
 mod ninety;
 mod shows;

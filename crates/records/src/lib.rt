@@ -1,5 +1,6 @@
 // The records of a file: a byte of kind, two bytes of bit map, and a field for each bit that stands.
 // Which kinds a file may hold is told by whoever opens it.
+#![tactic(auto)]
 
 mod faults;
 mod fields;

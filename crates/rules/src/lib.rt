@@ -1,4 +1,6 @@
 // What a clearing of a market keeps and what it is worth: the rules on orders, balance and prices, welfare and cost.
+#![tactic(auto)]
+
 mod amounts;
 mod balance;
 mod faults;

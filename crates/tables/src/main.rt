@@ -1,5 +1,7 @@
 // Prints the two programmes of a market file: the limits, marks and objective numbers of the variables, and the rows, where they are not all 0.
 // The price programme is that of a clearing in which every order is accepted in full.
+#![tactic(auto)]
+
 ghost use Rattle.std.specs.Prelude.{ℕ, ◌<◌};
 ghost use Rattle.rules.specs.Clearings.{Parts};
 ghost use Rattle.rules.specs.Scratch.{parts_in};

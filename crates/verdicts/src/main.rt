@@ -1,4 +1,6 @@
 // Prints the verdict on each of a table of clearings: what it is worth, or the first rule that it breaks, and where.
+#![tactic(auto)]
+
 mod cases;
 
 use cases::{CASES, Case};

@@ -19,7 +19,7 @@ returns-in-Ok c =
     let file = c.args.self.now.file.now in
     let place = c.args.self.now.place in
     let kinds = c.args.self.now.kinds.now in
-    let more = leb-false (length file) place (sym c.if-at-end.ensures) in
+    let more = leb-false (length file) place (sym c.if-at_end.ensures) in
     let told = c.in-Ok.ensures in
     let whole = between_to_end file place (length file) (omega arith) in
     let reads = ap (read kinds) (sym whole) ∙ told.0 in
@@ -31,6 +31,6 @@ returns-in-Err c =
     let file = c.args.self.now.file.now in
     let place = c.args.self.now.place in
     let kinds = c.args.self.now.kinds.now in
-    let more = leb-false (length file) place (sym c.if-at-end.ensures) in
+    let more = leb-false (length file) place (sym c.if-at_end.ensures) in
     let told = ap (read kinds) (sym (between_to_end file place (length file) (omega arith))) ∙ c.in-Err.ensures in
     record { file = refl; kinds = refl; reads = (more, told, refl, refl); spelt = unspelt kinds (drop place file) _ told }

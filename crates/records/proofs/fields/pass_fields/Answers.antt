@@ -23,9 +23,9 @@ pub loop-i-preserved : goal.loop-i-preserved
 loop-i-preserved c =
     let kind = c.args.kind in
     let rest = c.loop-i.rest.now in
-    let left = c.args.count - (c.loop-i.-i + 1) in
-    let more : c.args.count - c.loop-i.-i ≡ suc left = omega arith in
-    let told = c.in-ok-field.ensures in (
+    let left = c.args.count - (c.loop-i._i + 1) in
+    let more : c.args.count - c.loop-i._i ≡ suc left = omega arith in
+    let told = c.in_ok-field.ensures in (
       rw told.3 (simp length-drop (omega (arith, c.loop-i.invariant.0, ap (λ k. width kind * k) more, mul-suc (width kind) left))),
       c.loop-i.invariant.1 ∙ ap (λ k. has_zero (values kind k rest)) more
           ∙ ap (λ b. b || has_zero (values kind left (drop (width kind) rest))) told.2

@@ -8,6 +8,6 @@ returns c =
     let bytes = c.args.bytes.now in
     let eight : 8 ≤ length bytes = search rules in (
       eight,
-      to_z-of_z w64 c.from-be-bytes-value.result (search rules) ∙ search rules,
+      to_z-of_z w64 c.from_be_bytes-value.result (search rules) ∙ search rules,
       between_to_end bytes 8 (length bytes) (omega arith),
     )

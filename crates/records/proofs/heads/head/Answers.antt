@@ -40,13 +40,13 @@ pub returns : goal.returns
 returns c =
     let left = c.args.left.now in
     let three : 3 ≤ length left = search rules in
-    let map = c.from-be-bytes-map.result in
+    let map = c.from_be_bytes-map.result in
     let count = c.in-Some.count in
-    let size = ap (λ w. w * ones map) c.field-width.ensures in
+    let size = ap (λ w. w * ones map) c.field_width.ensures in
     let long : width (get_or left 0 0) * ones map ≤ length (take (length left - 3) (drop 3 left)) = omega (arith, size) in
-    let cut = cut_off left c.field-width.result map c.field-width.ensures in
-    let inside = sym c.if-has-bit-from.ensures in
+    let cut = cut_off left c.field_width.result map c.field_width.ensures in
+    let inside = sym c.if-has_bit_from.ensures in
     let reads =
-    read_some c.args.kinds.now left map count three c.from-be-bytes-map.ensures c.in-Some.ensures
+    read_some c.args.kinds.now left map count three c.from_be_bytes-map.ensures c.in-Some.ensures
     ∙ body_ok (get_or left 0 0) map count _ _ long inside cut c.in-ok-pass-fields.ensures in
     (reads, refl, spelt c.args.kinds.now left _ (All-from_get_or Byte left 0 (λ k h. search rules)) reads)
