@@ -5,38 +5,38 @@ use Rattle.bound.proofs.Steps.{went}
 use Rattle.bound.proofs.Parts.{part_refused, sum-refused, parts_more}
 use Rattle.bound.proofs.leaf.leaf_bound.Goals as goal
 
-pub returns-in-err-part : goal.returns-in-err-part
-returns-in-err-part g c =
+pub returns-in_err-part : goal.returns-in_err-part
+returns-in_err-part g c =
     let t = g.P.Programme.table c.args.p.now in
     let ws = c.args.weights.now in
-    let first : SFits w64 c.in-ok-bound.bound = search rules in
+    let first : SFits w64 c.in_ok-bound.bound = search rules in
     let inv = simp to_z-of_z at c.loop-v.invariant in
-    let within : c.loop-v.v < t.variables = rw c.variable-count-v-end.ensures at c.loop-v-test.true in
-    rw c.from-residual-in-err-part.ensures
-    (part_refused t ws t.variables c.in-ok-bound.bound c.loop-v.v _ inv within c.in-err-part.ensures
-    ∙ sym (went _ (parts t ws t.variables 0) c.in-ok-bound.ensures))
+    let within : c.loop-v.v < t.variables = rw c.variable_count-v-end.ensures at c.loop-v-test.true in
+    rw c.from_residual-in_err-part.ensures
+    (part_refused t ws t.variables c.in_ok-bound.bound c.loop-v.v _ inv within c.in_err-part.ensures
+    ∙ sym (went _ (parts t ws t.variables 0) c.in_ok-bound.ensures))
 
-pub returns-in-err-bound-2 : goal.returns-in-err-bound-2
-returns-in-err-bound-2 g c =
+pub returns-in_err-bound-2 : goal.returns-in_err-bound-2
+returns-in_err-bound-2 g c =
     let t = g.P.Programme.table c.args.p.now in
     let ws = c.args.weights.now in
-    let first : SFits w64 c.in-ok-bound.bound = search rules in
-    let part : SFits w64 c.in-ok-part.part = search rules in
+    let first : SFits w64 c.in_ok-bound.bound = search rules in
+    let part : SFits w64 c.in_ok-part.part = search rules in
     let inv = simp to_z-of_z at c.loop-v.invariant in
-    let within : c.loop-v.v < t.variables = rw c.variable-count-v-end.ensures at c.loop-v-test.true in
-    let refused = simp to_z-of_z at c.in-err-bound-2.ensures in
-    rw c.from-residual-in-err-bound-2.ensures
-    (sum-refused t ws t.variables c.in-ok-bound.bound c.loop-v.v _ inv within c.in-ok-part.ensures refused
-    ∙ sym (went _ (parts t ws t.variables 0) c.in-ok-bound.ensures))
+    let within : c.loop-v.v < t.variables = rw c.variable_count-v-end.ensures at c.loop-v-test.true in
+    let refused = simp to_z-of_z at c.in_err-bound-2.ensures in
+    rw c.from_residual-in_err-bound-2.ensures
+    (sum-refused t ws t.variables c.in_ok-bound.bound c.loop-v.v _ inv within c.in_ok-part.ensures refused
+    ∙ sym (went _ (parts t ws t.variables 0) c.in_ok-bound.ensures))
 
 pub loop-v-preserved : goal.loop-v-preserved
 loop-v-preserved g c =
     let t = g.P.Programme.table c.args.p.now in
     let ws = c.args.weights.now in
-    let first : SFits w64 c.in-ok-bound.bound = search rules in
-    let part : SFits w64 c.in-ok-part.part = search rules in
-    let bound : SFits w64 c.in-ok-bound-2.bound = search rules in
+    let first : SFits w64 c.in_ok-bound.bound = search rules in
+    let part : SFits w64 c.in_ok-part.part = search rules in
+    let bound : SFits w64 c.in_ok-bound-2.bound = search rules in
     let inv = simp to_z-of_z at c.loop-v.invariant in
-    let within : c.loop-v.v < t.variables = rw c.variable-count-v-end.ensures at c.loop-v-test.true in
-    let added = simp to_z-of_z at c.in-ok-bound-2.ensures in
-    simp to_z-of_z (parts_more t ws t.variables c.in-ok-bound.bound c.loop-v.v _ inv within c.in-ok-part.ensures added)
+    let within : c.loop-v.v < t.variables = rw c.variable_count-v-end.ensures at c.loop-v-test.true in
+    let added = simp to_z-of_z at c.in_ok-bound-2.ensures in
+    simp to_z-of_z (parts_more t ws t.variables c.in_ok-bound.bound c.loop-v.v _ inv within c.in_ok-part.ensures added)

@@ -5,15 +5,15 @@ use Rattle.bound.specs.Leaves.{add_side}
 use Rattle.bound.proofs.Steps.{each_more, each_stops, each_all}
 use Rattle.bound.proofs.leaf.sides_sum.Goals as goal
 
-pub returns-in-err-bound : goal.returns-in-err-bound
-returns-in-err-bound g c =
+pub returns-in_err-bound : goal.returns-in_err-bound
+returns-in_err-bound g c =
     let ws = c.args.weights.now in
     let i = c.loop-w.w-index in
     let d : Weight = record { row = 0; weight = pos 0 } in
     let weight : SFits w64 (get_or ws i d).weight = search rules in
-    let side : SFits w64 c.right-side.result = search rules in
-    let refused = simp c.right-side.ensures at (simp to_z-of_z at c.in-err-bound.ensures) in
-    rw c.from-residual.ensures (each_stops (add_side (g.P.Programme.table c.args.p.now)) ws (pos 0) i _ c.loop-w.invariant d c.loop-w-test.true refused)
+    let side : SFits w64 c.right_side.result = search rules in
+    let refused = simp c.right_side.ensures at (simp to_z-of_z at c.in_err-bound.ensures) in
+    rw c.from_residual.ensures (each_stops (add_side (g.P.Programme.table c.args.p.now)) ws (pos 0) i _ c.loop-w.invariant d c.loop-w-test.true refused)
 
 pub loop-w-preserved : goal.loop-w-preserved
 loop-w-preserved g c =
@@ -21,9 +21,9 @@ loop-w-preserved g c =
     let i = c.loop-w.w-index in
     let d : Weight = record { row = 0; weight = pos 0 } in
     let weight : SFits w64 (get_or ws i d).weight = search rules in
-    let side : SFits w64 c.right-side.result = search rules in
-    let bound : SFits w64 c.in-ok-bound.bound = search rules in
-    let made = simp c.right-side.ensures at (simp to_z-of_z at c.in-ok-bound.ensures) in
+    let side : SFits w64 c.right_side.result = search rules in
+    let bound : SFits w64 c.in_ok-bound.bound = search rules in
+    let made = simp c.right_side.ensures at (simp to_z-of_z at c.in_ok-bound.ensures) in
     simp to_z-of_z (each_more (add_side (g.P.Programme.table c.args.p.now)) ws (pos 0) i _ c.loop-w.invariant d c.loop-w-test.true made)
 
 pub returns : goal.returns

@@ -8,11 +8,11 @@ use Rattle.bound.specs.Steps.{refuse}
 use Rattle.bound.proofs.Reading.{step_end, step_ok, step_err, step_split, step_row, step_close}
 use Rattle.bound.proofs.tree.next_step.Goals as goal
 
-pub returns-in-err-record : goal.returns-in-err-record
-returns-in-err-record c =
+pub returns-in_err-record : goal.returns-in_err-record
+returns-in_err-record c =
     let reader = c.args.reader.now in
-    let told = c.in-err-record.ensures in
-    let p = err_from_is_err_and c.from-residual.result c.from-residual.ensures.1 in
+    let told = c.in_err-record.ensures in
+    let p = err_from_is_err_and c.from_residual.result c.from_residual.ensures.1 in
     let is = ap (λ k. read k (drop (place_of reader) (file_of reader))) (sym c.requires.0) ∙ told.reads.1 in
     record {
       file = told.file;
@@ -21,18 +21,18 @@ returns-in-err-record c =
       on = rw p.1 tt;
     }
 
-pub returns-in-default : goal.returns-in-default
-returns-in-default c =
+pub returns-in_default : goal.returns-in_default
+returns-in_default c =
     let reader = c.args.reader.now in
-    let told = c.in-ok-record.ensures in
-    let none = subst (λ o. Next (kinds_of reader) (file_of reader) (place_of reader) (Ok o) (place_of c.next.new.self)) c.in-default.is told.reads in
+    let told = c.in_ok-record.ensures in
+    let none = subst (λ o. Next (kinds_of reader) (file_of reader) (place_of reader) (Ok o) (place_of c.next.new.self)) c.in_default.is told.reads in
     let ended : length (file_of reader) ≡ c.place-place.result = omega (arith, none.0, c.requires.1, c.place-place.ensures) in
     record { file = told.file; over = tt; gives = step_end (file_of reader) (place_of reader) none.0 ∙ ap (refuse NotOneTree) ended; on = tt }
 
 pub returns-in-8 : goal.returns-in-8
 returns-in-8 c =
     let reader = c.args.reader.now in
-    let told = c.in-ok-record.ensures in
+    let told = c.in_ok-record.ensures in
     let some = subst (λ o. Next (kinds_of reader) (file_of reader) (place_of reader) (Ok o) (place_of c.next.new.self)) c.in-Some.is told.reads in
     let is = ap (λ k. read k (drop (place_of reader) (file_of reader))) (sym c.requires.0) ∙ some.0 in
     let first = to_z-of_z w64 c.field.result (search rules) ∙ c.field.ensures in
@@ -46,7 +46,7 @@ returns-in-8 c =
 pub returns-in-9 : goal.returns-in-9
 returns-in-9 c =
     let reader = c.args.reader.now in
-    let told = c.in-ok-record.ensures in
+    let told = c.in_ok-record.ensures in
     let some = subst (λ o. Next (kinds_of reader) (file_of reader) (place_of reader) (Ok o) (place_of c.next.new.self)) c.in-Some.is told.reads in
     let is = ap (λ k. read k (drop (place_of reader) (file_of reader))) (sym c.requires.0) ∙ some.0 in
     let first = to_z-of_z w64 c.field-in-9.result (search rules) ∙ c.field-in-9.ensures in
@@ -58,10 +58,10 @@ returns-in-9 c =
       on = omega (arith, some.2);
     }
 
-pub returns-in-default-kind : goal.returns-in-default-kind
-returns-in-default-kind c =
+pub returns-in_default-kind : goal.returns-in_default-kind
+returns-in_default-kind c =
     let reader = c.args.reader.now in
-    let told = c.in-ok-record.ensures in
+    let told = c.in_ok-record.ensures in
     let some = subst (λ o. Next (kinds_of reader) (file_of reader) (place_of reader) (Ok o) (place_of c.next.new.self)) c.in-Some.is told.reads in
     let is = ap (λ k. read k (drop (place_of reader) (file_of reader))) (sym c.requires.0) ∙ some.0 in
     record {

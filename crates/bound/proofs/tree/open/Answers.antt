@@ -15,14 +15,14 @@ use Rattle.bound.proofs.tree.open.Goals as goal
 pub loop-variable-init : goal.loop-variable-init
 loop-variable-init g c = (refl, c.requires, refl, omega arith, omega arith, refl, (length (file_of c.args.reader.now), omega arith, refl))
 
-pub returns-in-err-variable : goal.returns-in-err-variable
-returns-in-err-variable g c =
+pub returns-in_err-variable : goal.returns-in_err-variable
+returns-in_err-variable g c =
     let inv = c.loop-variable.invariant in
     let walk = inv.6 in
-    let told = c.in-err-variable.ensures in
+    let told = c.in_err-variable.ensures in
     let at = place_of c.loop-variable.reader in
     let t = g.P.Programme.table c.args.programme.now in
-    let p = err_from_is_err_and c.from-residual.result c.from-residual.ensures.1 in
+    let p = err_from_is_err_and c.from_residual.result c.from_residual.ensures.1 in
     record {
       file = told.file ∙ inv.0;
       over = rw p.1 tt;
@@ -33,9 +33,9 @@ pub returns-in-Split : goal.returns-in-Split
 returns-in-Split g c =
     let inv = c.loop-variable.invariant in
     let walk = inv.6 in
-    let told = c.in-ok-variable.ensures in
+    let told = c.in_ok-variable.ensures in
     let at = place_of c.loop-variable.reader in
-    let q = place_of c.next-step.new.reader in
+    let q = place_of c.next_step.new.reader in
     let program = c.args.programme.now in
     let t = g.P.Programme.table program in
     let file = file_of c.args.reader.now in
@@ -46,21 +46,21 @@ returns-in-Split g c =
     let few : count ≤ length c.loop-variable.weights = omega (arith, inv.2, inv.3, inv.4, (g.P.Programme.lawful program).few_rows) in
     let size : count ≡ length ws = sym (length-take-le count c.loop-variable.weights few) in
     let step = ap (λ f. step_at f at) (sym inv.0) ∙ told.gives ∙ ap (λ s. Ok (s, q)) c.in-Split.is in
-    let is : c.branch-variable-count.result ≡ opened t.variables (length ws) v at =
-    c.branch-variable-count.ensures ∙ (λ i. opened (c.variable-count.ensures i) (size i) (to_z-of_z w64 v fits i) (c.place-place.ensures i)) in
+    let is : c.branch-variable_count.result ≡ opened t.variables (length ws) v at =
+    c.branch-variable_count.ensures ∙ (λ i. opened (c.variable_count.ensures i) (size i) (to_z-of_z w64 v fits i) (c.place-place.ensures i)) in
     record {
       file = told.file ∙ inv.0;
-      over = made_always c.branch-variable-count.result told.over;
-      gives = gives_then _ c.branch-variable-count.result q (walk.2 ∙ leaf_ok walk.0 t file ws at walk.1 _ q step ∙ ap (λ r. and_then r (λ f. Ok (f, q))) (sym is));
+      over = made_always c.branch-variable_count.result told.over;
+      gives = gives_then _ c.branch-variable_count.result q (walk.2 ∙ leaf_ok walk.0 t file ws at walk.1 _ q step ∙ ap (λ r. and_then r (λ f. Ok (f, q))) (sym is));
     }
 
-pub returns-in-err-judged : goal.returns-in-err-judged
-returns-in-err-judged g c =
+pub returns-in_err-judged : goal.returns-in_err-judged
+returns-in_err-judged g c =
     let inv = c.loop-variable.invariant in
     let walk = inv.6 in
-    let told = c.in-ok-variable.ensures in
+    let told = c.in_ok-variable.ensures in
     let at = place_of c.loop-variable.reader in
-    let q = place_of c.next-step.new.reader in
+    let q = place_of c.next_step.new.reader in
     let program = c.args.programme.now in
     let t = g.P.Programme.table program in
     let file = file_of c.args.reader.now in
@@ -71,9 +71,9 @@ returns-in-err-judged g c =
     let few : count ≤ length c.loop-variable.weights = omega (arith, inv.2, inv.3, inv.4, (g.P.Programme.lawful program).few_rows) in
     let size : count ≡ length ws = sym (length-take-le count c.loop-variable.weights few) in
     let step = ap (λ f. step_at f at) (sym inv.0) ∙ told.gives ∙ ap (λ s. Ok (s, q)) c.in-Row.is in
-    let is : judged (length ws) (next_row ws) t.rows c.in-Row.row c.in-Row.weight at ≡ Err c.in-err-judged.field-0.0 =
-    sym (sym c.in-err-judged.was ∙ c.judge.ensures ∙ (λ i. judged (size i) (sym inv.5 i) (c.rows.ensures i) (to_z-of_z w64 c.in-Row.row row i) (to_z-of_z w64 c.in-Row.weight weight i) (c.place-place.ensures i))) in
-    let p = err_from_is_err_and c.from-residual-in-err-judged.result c.from-residual-in-err-judged.ensures.1 in
+    let is : judged (length ws) (next_row ws) t.rows c.in-Row.row c.in-Row.weight at ≡ Err c.in_err-judged.field-0.0 =
+    sym (sym c.in_err-judged.was ∙ c.judge.ensures ∙ (λ i. judged (size i) (sym inv.5 i) (c.rows.ensures i) (to_z-of_z w64 c.in-Row.row row i) (to_z-of_z w64 c.in-Row.weight weight i) (c.place-place.ensures i))) in
+    let p = err_from_is_err_and c.from_residual-in_err-judged.result c.from_residual-in_err-judged.ensures.1 in
     record {
       file = told.file ∙ inv.0;
       over = rw p.1 tt;
@@ -84,23 +84,23 @@ pub loop-variable-preserved : goal.loop-variable-preserved
 loop-variable-preserved g c =
     let inv = c.loop-variable.invariant in
     let walk = inv.6 in
-    let told = c.in-ok-variable.ensures in
+    let told = c.in_ok-variable.ensures in
     let at = place_of c.loop-variable.reader in
-    let q = place_of c.next-step.new.reader in
+    let q = place_of c.next_step.new.reader in
     let program = c.args.programme.now in
     let t = g.P.Programme.table program in
     let file = file_of c.args.reader.now in
     let weights = c.loop-variable.weights in
     let count = c.loop-variable.count in
     let ws = take count weights in
-    let w = c.in-ok-judged.judged in
+    let w = c.in_ok-judged.judged in
     let row : SFits w64 c.in-Row.row = search rules in
     let weight : SFits w64 c.in-Row.weight = search rules in
     let few : count ≤ length weights = omega (arith, inv.2, inv.3, inv.4, (g.P.Programme.lawful program).few_rows) in
     let size : count ≡ length ws = sym (length-take-le count weights few) in
     let step = ap (λ f. step_at f at) (sym inv.0) ∙ told.gives ∙ ap (λ s. Ok (s, q)) c.in-Row.is in
     let is : judged (length ws) (next_row ws) t.rows c.in-Row.row c.in-Row.weight at ≡ Ok w =
-    sym (sym c.in-ok-judged.was ∙ c.judge.ensures ∙ (λ i. judged (size i) (sym inv.5 i) (c.rows.ensures i) (to_z-of_z w64 c.in-Row.row row i) (to_z-of_z w64 c.in-Row.weight weight i) (c.place-place.ensures i))) in
+    sym (sym c.in_ok-judged.was ∙ c.judge.ensures ∙ (λ i. judged (size i) (sym inv.5 i) (c.rows.ensures i) (to_z-of_z w64 c.in-Row.row row i) (to_z-of_z w64 c.in-Row.weight weight i) (c.place-place.ensures i))) in
     let good = accepted (length ws) (next_row ws) t.rows c.in-Row.row c.in-Row.weight at w is in
     let after : count ≤ w.row = rises_past count (length ws) (next_row ws) w.row size (omega (arith, inv.3, inv.5)) good.rises in
     let room : count < length weights = omega (arith, inv.2, after, good.there, (g.P.Programme.lawful program).few_rows) in
@@ -123,9 +123,9 @@ pub returns-in-Close : goal.returns-in-Close
 returns-in-Close g c =
     let inv = c.loop-variable.invariant in
     let walk = inv.6 in
-    let told = c.in-ok-variable.ensures in
+    let told = c.in_ok-variable.ensures in
     let at = place_of c.loop-variable.reader in
-    let q = place_of c.next-step.new.reader in
+    let q = place_of c.next_step.new.reader in
     let t = g.P.Programme.table c.args.programme.now in
     let file = file_of c.args.reader.now in
     let count = c.loop-variable.count in

@@ -7,11 +7,11 @@ use Rattle.records.proofs.Bodies.{read_fits}
 use Rattle.records.proofs.Spelling.{unspelt}
 use Rattle.records.proofs.Reader.next.Goals as goal
 
-pub returns-then-at-end : goal.returns-then-at-end
-returns-then-at-end c =
+pub returns-then-at_end : goal.returns-then-at_end
+returns-then-at_end c =
     let file = c.args.self.now.file.now in
     let place = c.args.self.now.place in
-    let none : length file ≤ place = leb-true (length file) place (sym c.if-at-end.ensures) in
+    let none : length file ≤ place = leb-true (length file) place (sym c.if-at_end.ensures) in
     record { file = refl; kinds = refl; reads = (none, refl); spelt = drop_of_length-le file none }
 
 pub returns-in-Ok : goal.returns-in-Ok

@@ -5,15 +5,15 @@ use Rattle.records.specs.Bytes.{width}
 use Rattle.records.specs.Read.{values, has_zero}
 use Rattle.records.proofs.fields.pass_fields.Goals as goal
 
-pub returns-in-err-field : goal.returns-in-err-field
-returns-in-err-field c =
+pub returns-in_err-field : goal.returns-in_err-field
+returns-in_err-field c =
     let kind = c.args.kind in
     let rest = c.loop-i.rest.now in
-    let left = c.args.count - (c.loop-i.-i + 1) in
-    let more : c.args.count - c.loop-i.-i ≡ suc left = omega arith in
+    let left = c.args.count - (c.loop-i._i + 1) in
+    let more : c.args.count - c.loop-i._i ≡ suc left = omega arith in
     let long : width kind ≤ length rest = omega (arith, c.loop-i.invariant.0, ap (λ k. width kind * k) more, mul-suc (width kind) left) in
-    let told = c.in-err-field.ensures in
-    let p = err_from_is_err_and c.from-residual.result c.from-residual.ensures.1 in
+    let told = c.in_err-field.ensures in
+    let p = err_from_is_err_and c.from_residual.result c.from_residual.ensures.1 in
     rw (p.1, p.2) (
       c.loop-i.invariant.1 ∙ ap (λ k. has_zero (values kind k rest)) more ∙ ap (λ b. b || has_zero (values kind left (drop (width kind) rest))) told.0,
       told.1 ∙ cond-false _ _ _ (le-ltb (length rest) (width kind) long),

@@ -2,5 +2,5 @@ use Rattle.std.proofs.Common.{refl, arith}
 use Rattle.bound.proofs.Holding.{small_none}
 use Rattle.bound.proofs.fixing.Fixing.over.Goals as goal
 
-pub invariant-of-result : goal.invariant-of-result
-invariant-of-result g c = (omega arith, (refl, (small_none 64, tt)))
+pub invariant_of-result : goal.invariant_of-result
+invariant_of-result g c = (omega arith, (refl, (small_none 64, tt)))

@@ -16,15 +16,15 @@ loop-v-preserved g c =
     let high : SFits w64 c.limits-low.result.1 = search rules in
     let low-is = to_z-of_z w64 _ low ∙ c.limits-low.ensures.low in
     let high_is = to_z-of_z w64 _ high ∙ c.limits-low.ensures.high in
-    let within : c.loop-v.v < length c.loop-v.lines = omega (arith, c.loop-v.invariant.0, c.variable-count-v-end.ensures, (g.P.Programme.lawful p).few_variables, c.loop-v-test.true) in
+    let within : c.loop-v.v < length c.loop-v.lines = omega (arith, c.loop-v.invariant.0, c.variable_count-v-end.ensures, (g.P.Programme.lawful p).few_variables, c.loop-v-test.true) in
     (simp length-set c.loop-v.invariant.0, copied_more t c.loop-v.lines c.loop-v.v _ within (λ i. record { low = low-is i; high = high_is i; whole = c.whole-whole.ensures i }) c.loop-v.invariant.1)
 
-pub invariant-of-result : goal.invariant-of-result
-invariant-of-result g c =
+pub invariant_of-result : goal.invariant_of-result
+invariant_of-result g c =
     let p = c.args.below.now in
     let t = g.P.Programme.table p in
     let l = g.P.Programme.lawful p in
-    let done : c.loop-v.v ≡ t.variables = omega (arith, c.variable-count-v-end.ensures, c.loop-v-test.false, c.loop-v.auto.v-end) in
+    let done : c.loop-v.v ≡ t.variables = omega (arith, c.variable_count-v-end.ensures, c.loop-v-test.false, c.loop-v.auto.v-end) in
     let P : ℕ → Type 0 = λ n. (k : ℕ) → line c.loop-v.lines k ≡ cond (ltb k n) (line_of t k) no_line in
     let copied = subst P done c.loop-v.invariant.1 in
     (copied_ordered t l c.loop-v.lines copied, (copied_low t l c.loop-v.lines copied, (copied_high t l c.loop-v.lines copied, tt)))
@@ -33,6 +33,6 @@ pub returns : goal.returns
 returns g c =
     let p = c.args.below.now in
     let t = g.P.Programme.table p in
-    let done : c.loop-v.v ≡ t.variables = omega (arith, c.variable-count-v-end.ensures, c.loop-v-test.false, c.loop-v.auto.v-end) in
+    let done : c.loop-v.v ≡ t.variables = omega (arith, c.variable_count-v-end.ensures, c.loop-v-test.false, c.loop-v.auto.v-end) in
     let P : ℕ → Type 0 = λ n. (k : ℕ) → line c.loop-v.lines k ≡ cond (ltb k n) (line_of t k) no_line in
     record { below = refl; same = copied_same t (g.P.Programme.lawful p) c.loop-v.lines (subst P done c.loop-v.invariant.1) }

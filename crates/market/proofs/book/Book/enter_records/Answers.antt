@@ -13,8 +13,8 @@ use Rattle.market.proofs.book.Book.enter_records.Goals as goal
 pub loop-given-preserved : goal.loop-given-preserved
 loop-given-preserved c =
     let inv = c.loop-given.invariant in
-    let told = c.in-ok-given.ensures in
-    let took = c.in-default-take.ensures in
+    let told = c.in_ok-given.ensures in
+    let took = c.in_default-take.ensures in
     let file = c.args.file.now in
     let was = c.loop-given.reader in
     let p = place_of was in

@@ -8,14 +8,14 @@ use Rattle.market.specs.View.{market_of}
 use Rattle.market.proofs.Pushing.{each_push, pairs_push, each_weaker, extra_stays_basket, admitted}
 use Rattle.market.proofs.book.Book.put_basket.Goals as goal
 
-pub invariant-of-self : goal.invariant-of-self
-invariant-of-self c =
+pub invariant_of-self : goal.invariant_of-self
+invariant_of-self c =
     let b = c.args.self.now in
     let ad = admitted (market_of b) (OfBasket c.args.basket) c.requires.1 in
     let room = leb-false 96 (length (vec_items b.baskets)) ad.room in
-    let is = c.push-reserved.ensures.items in
+    let is = c.push_reserved.ensures.items in
     let bs = vec_items b.baskets in
-    let more = vec_items c.push-reserved.new.self in (
+    let more = vec_items c.push_reserved.new.self in (
       (
         b.few.0,
         b.few.1,

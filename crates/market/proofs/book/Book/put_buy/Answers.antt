@@ -8,12 +8,12 @@ use Rattle.market.specs.View.{market_of}
 use Rattle.market.proofs.Pushing.{each_push, admitted}
 use Rattle.market.proofs.book.Book.put_buy.Goals as goal
 
-pub invariant-of-self : goal.invariant-of-self
-invariant-of-self c =
+pub invariant_of-self : goal.invariant_of-self
+invariant_of-self c =
     let b = c.args.self.now in
     let ad = admitted (market_of b) (OfBuy c.args.buy) c.requires.1 in
     let room = leb-false 64 (length (vec_items b.buys)) ad.room in
-    let is = c.push-reserved.ensures.items in (
+    let is = c.push_reserved.ensures.items in (
       (
         b.few.0,
         omega (arith, b.buys.ok.0, room),

@@ -8,19 +8,19 @@ use Rattle.market.specs.View.{market_of}
 use Rattle.market.proofs.Pushing.{each_push, admitted}
 use Rattle.market.proofs.book.Book.put_extra.Goals as goal
 
-pub push-reserved-requires : goal.push-reserved-requires
-push-reserved-requires c =
+pub push_reserved-requires : goal.push_reserved-requires
+push_reserved-requires c =
     let b = c.args.self.now in
     let ad = admitted (market_of b) (OfExtra c.args.extra) c.requires.1 in
     let room = leb-false 96 (length (vec_items b.extras)) ad.room in
     omega (arith, b.extras.ok.0)
 
-pub invariant-of-self : goal.invariant-of-self
-invariant-of-self c =
+pub invariant_of-self : goal.invariant_of-self
+invariant_of-self c =
     let b = c.args.self.now in
     let ad = admitted (market_of b) (OfExtra c.args.extra) c.requires.1 in
     let room = leb-false 96 (length (vec_items b.extras)) ad.room in
-    let is = c.push-reserved.ensures.items in (
+    let is = c.push_reserved.ensures.items in (
       (
         b.few.0,
         b.few.1,

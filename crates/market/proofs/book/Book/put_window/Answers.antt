@@ -8,14 +8,14 @@ use Rattle.market.specs.View.{market_of}
 use Rattle.market.proofs.Pushing.{each_push, pairs_push, each_weaker, buy_stays, basket_stays, extra_stays, looped_stays, admitted}
 use Rattle.market.proofs.book.Book.put_window.Goals as goal
 
-pub invariant-of-self : goal.invariant-of-self
-invariant-of-self c =
+pub invariant_of-self : goal.invariant_of-self
+invariant_of-self c =
     let b = c.args.self.now in
     let ad = admitted (market_of b) (OfWindow c.args.window) c.requires.1 in
     let room = leb-false 32 (length (vec_items b.windows)) ad.room in
-    let is = c.push-reserved.ensures.items in
+    let is = c.push_reserved.ensures.items in
     let ws = vec_items b.windows in
-    let more = vec_items c.push-reserved.new.self in (
+    let more = vec_items c.push_reserved.new.self in (
       (
         omega (arith, b.windows.ok.0, room),
         b.few.1,

@@ -5,5 +5,5 @@ use Rattle.market.proofs.closed.ClosedMarket.buy.Goals as goal
 
 pub returns : goal.returns
 returns c =
-    let past : length (vec_items c.args.self.now.book.buys) ≤ c.args.i = omega (arith, c.buy-count.ensures, c.if-i-buy-count.false) in
+    let past : length (vec_items c.args.self.now.book.buys) ≤ c.args.i = omega (arith, c.buy_count.ensures, c.if-i-buy_count.false) in
     sym (get_or_past (vec_items c.args.self.now.book.buys) c.args.i no_buy past)

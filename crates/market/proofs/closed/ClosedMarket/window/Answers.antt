@@ -5,5 +5,5 @@ use Rattle.market.proofs.closed.ClosedMarket.window.Goals as goal
 
 pub returns : goal.returns
 returns c =
-    let past : length (vec_items c.args.self.now.book.windows) ≤ c.args.w = omega (arith, c.window-count.ensures, c.if-w-window-count.false) in
+    let past : length (vec_items c.args.self.now.book.windows) ≤ c.args.w = omega (arith, c.window_count.ensures, c.if-w-window_count.false) in
     sym (get_or_past (vec_items c.args.self.now.book.windows) c.args.w no_window past)
