@@ -14,7 +14,7 @@ import sys
 
 NAME = r"[^\s(){}\[\].,;:@«»\"`]+"
 HEAD = re.compile(rf"(?:(?:unfoldable|abbrev|pub|record|data) )*({NAME})\s*[:({{]")
-FIELD = re.compile(rf"  (?:pub )?({NAME})\s*:\s")
+FIELD = re.compile(rf"  (?:(?:unfoldable|abbrev|pub|record|data) )*({NAME})\s*[:({{]")
 MADE = {"Answers.antt", "Invariants.antt", "Proof.antt"}
 KEYWORDS = {"use", "mod", "pub", "unfolding", "record", "data", "where"}
 

@@ -33,8 +33,8 @@ true_above x h = grind (arith, ints)
 
 -- the limits of the line of window w and product p
 module _ (m : Market) where
-  abbrev pricedAt : ℕ → ℕ → Bool
-  pricedAt w p = ltb w (length m.windows) && ltb p (terms (window_at m w).service).products
+  abbrev priced_at : ℕ → ℕ → Bool
+  priced_at w p = ltb w (length m.windows) && ltb p (terms (window_at m w).service).products
 
   abbrev Limits : ℕ → (ℕ → ℤ) → ℕ → ℕ → Service → Bool → Type 0
   Limits D Y w p s t = ((cond t (terms s).floor (pos 0) *ℤ pos D) ≤ℤ Y (6 * w + p)) × (Y (6 * w + p) ≤ℤ (cond t (pos 99999) (pos 0) *ℤ pos D))
@@ -66,7 +66,7 @@ module _ (m : Market) where
   reserve_two Quick d = (refl, refl)
   reserve_two Slow d = (refl, refl)
 
-  to_list : (D : ℕ) (Y : ℕ → ℤ) → length m.windows ≤ 32 → ((w p : ℕ) → w < 32 → p < 6 → Limits D Y w p (window_at m w).service (pricedAt w p)) → PriceList m D Y
+  to_list : (D : ℕ) (Y : ℕ → ℤ) → length m.windows ≤ 32 → ((w p : ℕ) → w < 32 → p < 6 → Limits D Y w p (window_at m w).service (priced_at w p)) → PriceList m D Y
   to_list D Y few lim =
       let entered : (w p : ℕ) → p < 6 → w < length m.windows → Limits D Y w p (window_at m w).service (ltb p (terms (window_at m w).service).products) = λ w p k h.
       subst (Limits D Y w p (window_at m w).service) (ap (λ (t : Bool). t && ltb p (terms (window_at m w).service).products) (lt-ltb w _ h)) (lim w p (omega arith) k) in
@@ -104,7 +104,7 @@ module _ (m : Market) (good : Lawful m) (X : ℕ → ℤ) (D : ℕ) (Y : ℕ →
   price_list pt = to_list m D Y good.few_windows (λ w p h k.
       let e : (6 * w + p) / 6 ≡ w = omega arith in
       let f : (6 * w + p) % 6 ≡ p = omega arith in
-      let P : ℕ → ℕ → Type 0 = λ (v q : ℕ). ((cond (pricedAt m v q) (terms (window_at m v).service).floor (pos 0) *ℤ pos D) ≤ℤ Y (6 * w + p)) × (Y (6 * w + p) ≤ℤ (cond (pricedAt m v q) (pos 99999) (pos 0) *ℤ pos D)) in
+      let P : ℕ → ℕ → Type 0 = λ (v q : ℕ). ((cond (priced_at m v q) (terms (window_at m v).service).floor (pos 0) *ℤ pos D) ≤ℤ Y (6 * w + p)) × (Y (6 * w + p) ≤ℤ (cond (priced_at m v q) (pos 99999) (pos 0) *ℤ pos D)) in
       subst (λ (q : ℕ). P w q) f (subst (λ (v : ℕ). P v ((6 * w + p) % 6)) e (pt.from (6 * w + p) (omega arith), pt.to (6 * w + p) (omega arith))))
 
   pub keeps_prices : Point (pricing m X) D Y → KeepsPrices m X D Y

@@ -14,8 +14,8 @@ module _ {P : Type 0} where
   count_of f = f.count
 
   -- the programme below
-  abbrev pub belowOf : Fixing P → P
-  belowOf f = f.below.now
+  abbrev pub below_of : Fixing P → P
+  below_of f = f.below.now
 
   -- v is one of n variables, it is not held, and there is room to hold it
   abbrev pub Free : ℕ → Fixing P → ℕ → Type 0
@@ -23,4 +23,4 @@ module _ {P : Type 0} where
 
   -- the path is as it was
   abbrev pub SamePath : Fixing P → Fixing P → Type 0
-  SamePath f g = (held_of g ≡ held_of f) × (count_of g ≡ count_of f) × (belowOf g ≡ belowOf f)
+  SamePath f g = (held_of g ≡ held_of f) × (count_of g ≡ count_of f) × (below_of g ≡ below_of f)

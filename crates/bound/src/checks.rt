@@ -4,7 +4,7 @@ ghost use Rattle.records.specs.Readers.{file_of, place_of};
 ghost use Rattle.bound.specs.Tables.{Small};
 ghost use Rattle.bound.specs.Points.{Bounds};
 ghost use Rattle.bound.specs.Layers.{fixed, holding};
-ghost use Rattle.bound.specs.Paths.{held_of, count_of, belowOf, Free, SamePath};
+ghost use Rattle.bound.specs.Paths.{held_of, count_of, below_of, Free, SamePath};
 ghost use Rattle.bound.specs.Checks.{allowed, node_at, finished, checked, Gives, OverTree};
 ghost use Rattle.bound.specs.Trees.{Proves, Accepts};
 ghost use Rattle.bound.specs.Refusals.{Refused, refused_by};
@@ -38,7 +38,7 @@ const TREE_KINDS: [Kind; 3] = [
 
 // Whether a split may be on the variable.
 fn may_split<P: Programme>(programme: &P, variable: usize) -> bool
-    ensures { result ≡ allowed (table programme.now) variable }
+    ensures { result ≡ allowed (P.table programme.now) variable }
 {
     let (low, high) = programme.limits(variable);
     programme.whole(variable) && low == 0 && high == 1
@@ -55,7 +55,7 @@ fn node<P: Programme>(
     ensures file { file_of reader.new ≡ file_of reader.old }
     ensures over { OnOk result (OverTree reader.new) }
     ensures path { OnOk result (SamePath fixing.old fixing.new) }
-    ensures gives { Gives (node_at (64 - count_of fixing.old) (fixed (table (belowOf fixing.old)) (held_of fixing.old)) (file_of reader.old) (place_of reader.old)) result (place_of reader.new) }
+    ensures gives { Gives (node_at (64 - count_of fixing.old) (fixed (P.table (below_of fixing.old)) (held_of fixing.old)) (file_of reader.old) (place_of reader.old)) result (place_of reader.new) }
 {
     let place = reader.place();
     match open(reader, &*fixing)? {
@@ -89,11 +89,11 @@ fn side<P: Programme>(
     variable: usize,
     value: i64,
 ) -> Result<i64, Refusal>
-    requires { (Free (table (belowOf fixing.old)).variables fixing.old variable) × ((Small value) × ((depth ≡ count_of fixing.old) × (OverTree reader.old))) }
+    requires { (Free (P.table (below_of fixing.old)).variables fixing.old variable) × ((Small value) × ((depth ≡ count_of fixing.old) × (OverTree reader.old))) }
     ensures file { file_of reader.new ≡ file_of reader.old }
     ensures over { OnOk result (OverTree reader.new) }
     ensures path { OnOk result (SamePath fixing.old fixing.new) }
-    ensures gives { Gives (node_at (63 - count_of fixing.old) (holding (fixed (table (belowOf fixing.old)) (held_of fixing.old)) variable value) (file_of reader.old) (place_of reader.old)) result (place_of reader.new) }
+    ensures gives { Gives (node_at (63 - count_of fixing.old) (holding (fixed (P.table (below_of fixing.old)) (held_of fixing.old)) variable value) (file_of reader.old) (place_of reader.old)) result (place_of reader.new) }
 {
     // It is known and free, so it can be held.
     let Ok(_) = fixing.hold(variable, value) else {
@@ -119,7 +119,7 @@ fn finish(reader: &Reader, bound: i64) -> Result<i64, Refusal>
 
 // The bound of the tree that the file is, over an empty fixing over a sheet over the pile.
 fn walk<P: Programme>(pile: &P, file: &[u8]) -> Result<i64, Refusal>
-    ensures { result ≡ checked (table pile.now) file.now }
+    ensures { result ≡ checked (P.table pile.now) file.now }
 {
     let mut reader = Reader::open(file, &TREE_KINDS)?;
     let sheet = LimitSheet::of(pile);
@@ -135,11 +135,11 @@ fn walk<P: Programme>(pile: &P, file: &[u8]) -> Result<i64, Refusal>
 // `accepts`: every tree that fits the table, and whose bound can be summed, is accepted;
 // `refuses`: a file that is refused begins a tree that fits the table, up to the place of the refusal, and is wrong there.
 pub fn check<P: Programme>(pile: &P, file: &[u8]) -> Result<i64, Refusal>
-    ensures exact { result ≡ checked (table pile.now) file.now }
-    ensures proves { IfOk result (λ b. Proves (table pile.now) file.now b) }
-    ensures sound { IfOk result (λ b. Bounds (table pile.now) b) }
-    ensures accepts { Accepts (table pile.now) file.now result }
-    ensures refuses { refused_by result (λ e. Refused (table pile.now) file.now e) }
+    ensures exact { result ≡ checked (P.table pile.now) file.now }
+    ensures proves { IfOk result (λ b. Proves (P.table pile.now) file.now b) }
+    ensures sound { IfOk result (λ b. Bounds (P.table pile.now) b) }
+    ensures accepts { Accepts (P.table pile.now) file.now result }
+    ensures refuses { refused_by result (λ e. Refused (P.table pile.now) file.now e) }
 {
     walk(pile, file)
 }

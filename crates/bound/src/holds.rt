@@ -1,7 +1,7 @@
 // Holding and releasing the variables of a fixing.
 ghost use Rattle.std.specs.Prelude.{◌≡◌, []};
 ghost use Rattle.bound.specs.Layers.{place, hold_answer, hold_after, without_last};
-ghost use Rattle.bound.specs.Paths.{held_of, belowOf};
+ghost use Rattle.bound.specs.Paths.{held_of, below_of};
 
 use crate::arithmetic::MOST;
 use crate::faults::{Fault, Refusal};
@@ -26,7 +26,7 @@ fn place_of(row: &[Held], v: usize) -> usize
 impl<'a, P: Programme> Fixing<'a, P> {
     // Nothing is held yet.
     pub fn over(below: &'a P) -> Fixing<'a, P>
-        ensures below { belowOf result ≡ below.now }
+        ensures below { below_of result ≡ below.now }
         ensures held { held_of result ≡ [] }
     {
         Fixing {
@@ -41,9 +41,9 @@ impl<'a, P: Programme> Fixing<'a, P> {
 
     // Holds the variable at the value; one that is held already takes the new value in its place.
     pub fn hold(&mut self, v: usize, value: i64) -> Result<(), Refusal>
-        ensures answers { result ≡ hold_answer (P.Programme.table (belowOf self.old)).variables (held_of self.old) (record { variable = v; value = value }) }
+        ensures answers { result ≡ hold_answer (P.Programme.table (below_of self.old)).variables (held_of self.old) (record { variable = v; value = value }) }
         ensures held { held_of self.new ≡ hold_after result (held_of self.old) (record { variable = v; value = value }) }
-        ensures below { belowOf self.new ≡ belowOf self.old }
+        ensures below { below_of self.new ≡ below_of self.old }
     {
         if (value as i128) < -MOST || value as i128 > MOST {
             return Err(Refusal {
@@ -74,7 +74,7 @@ impl<'a, P: Programme> Fixing<'a, P> {
     // Drops the variable that was held last, if any.
     pub fn release(&mut self)
         ensures held { held_of self.new ≡ without_last (held_of self.old) }
-        ensures below { belowOf self.new ≡ belowOf self.old }
+        ensures below { below_of self.new ≡ below_of self.old }
     {
         if self.count > 0 {
             self.count -= 1;

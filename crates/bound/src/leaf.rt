@@ -14,7 +14,7 @@ pub(crate) struct Weight {
 
 // Each weight times its row's right side, added up.
 fn sides_sum<P: Programme>(p: &P, weights: &[Weight]) -> Option<i64>
-    ensures { result ≡ sides (table p.now) weights.now }
+    ensures { result ≡ sides (P.table p.now) weights.now }
 {
     let mut bound = 0;
     for w in weights {
@@ -25,7 +25,7 @@ fn sides_sum<P: Programme>(p: &P, weights: &[Weight]) -> Option<i64>
 
 // The scale times the variable's objective number, less each weight times its coefficient.
 fn rest_of<P: Programme>(p: &P, weights: &[Weight], v: usize) -> Option<i64>
-    ensures { result ≡ rest_of (table p.now) weights.now v }
+    ensures { result ≡ rest_of (P.table p.now) weights.now v }
 {
     let mut rest = product(p.scale_value(), p.objective(v))?;
     for w in weights {
@@ -36,7 +36,7 @@ fn rest_of<P: Programme>(p: &P, weights: &[Weight], v: usize) -> Option<i64>
 
 // The most that the variable's rest adds: at its low or at its high limit.
 fn part_of<P: Programme>(p: &P, weights: &[Weight], v: usize) -> Option<i64>
-    ensures { result ≡ part (table p.now) weights.now v }
+    ensures { result ≡ part (P.table p.now) weights.now v }
 {
     let rest = rest_of(p, weights, v)?;
     let (low, high) = p.limits(v);
@@ -47,7 +47,7 @@ fn part_of<P: Programme>(p: &P, weights: &[Weight], v: usize) -> Option<i64>
 
 // The weighted right sides and every variable's part, added up.
 pub(crate) fn leaf_bound<P: Programme>(p: &P, weights: &[Weight]) -> Option<i64>
-    ensures { result ≡ leaf_bound (table p.now) weights.now }
+    ensures { result ≡ leaf_bound (P.table p.now) weights.now }
 {
     let mut bound = sides_sum(p, weights)?;
     for v in 0..p.variable_count() {

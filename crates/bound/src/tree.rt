@@ -111,7 +111,7 @@ fn branch(variables: usize, count: usize, variable: i64, place: usize) -> Result
 
 // The bound of a leaf that closes at `place`.
 fn close<P: Programme>(programme: &P, weights: &[Weight], place: usize) -> Result<Found, Refusal>
-    ensures { result ≡ closing (leaf_bound (table programme.now) weights.now) place }
+    ensures { result ≡ closing (leaf_bound (P.table programme.now) weights.now) place }
 {
     match leaf_bound(programme, weights) {
         Some(bound) => Ok(Found::Leaf(bound)),
@@ -127,7 +127,7 @@ pub(crate) fn open<P: Programme>(reader: &mut Reader, programme: &P) -> Result<F
     requires { OverTree reader.old }
     ensures file { file_of reader.new ≡ file_of reader.old }
     ensures over { OnOk result (OverTree reader.new) }
-    ensures gives { Gives (found_at (table programme.now) (file_of reader.old) (place_of reader.old)) result (place_of reader.new) }
+    ensures gives { Gives (found_at (P.table programme.now) (file_of reader.old) (place_of reader.old)) result (place_of reader.new) }
 {
     let mut weights = [Weight { row: 0, weight: 1 }; 1024];
     let mut count = 0;

@@ -30,16 +30,16 @@ saved b k u v p q f g h l =
     ((non_neg_lem _ (omega (arith, ints)), omega (arith, ints)), omega (arith, ints))
 
 module _ (m : Market) (h : Held) where
-  abbrev held-rival : Kept m h → Rival m
-  held-rival k = record { D = 10000; some = omega arith; parts = parts_of h; clearing = k.parts; keeps = k.orders }
+  abbrev held_rival : Kept m h → Rival m
+  held_rival k = record { D = 10000; some = omega arith; parts = parts_of h; clearing = k.parts; keeps = k.orders }
 
-  abbrev held-prices : Kept m h → PriceRival m (parts_of h)
-  held-prices k = record { D = 1; some = omega arith; prices = prices_of h; list = k.list; keeps = k.prices }
+  abbrev held_prices : Kept m h → PriceRival m (parts_of h)
+  held_prices k = record { D = 1; some = omega arith; prices = prices_of h; list = k.list; keeps = k.prices }
 
   below_rivals : (b : ℤ) → CoversRivals m (Some b) → Kept m h → le_z h.welfare b ≡ true
   below_rivals b c k =
       let e = k.welfare_is in
-      let t : le_z (pos 10000 *ℤ welfare m (parts_of h)) (pos 10000 *ℤ b) ≡ true = c (held-rival k) in
+      let t : le_z (pos 10000 *ℤ welfare m (parts_of h)) (pos 10000 *ℤ b) ≡ true = c (held_rival k) in
       grind (arith, ints)
 
   -- the bound is not below the held welfare
@@ -49,7 +49,7 @@ module _ (m : Market) (h : Held) where
   below_prices : (b : ℤ) → CoversPrices m h (Some b) → Kept m h → le_z (pos 0) (b +ℤ pos 1000 *ℤ h.cost) ≡ true
   below_prices b c k =
       let e = k.cost_is in
-      let t : le_z (neg_ℤ (pos 1000 *ℤ cost m (parts_of h) (prices_of h))) (pos 1 *ℤ b) ≡ true = c (held-prices k) in
+      let t : le_z (neg_ℤ (pos 1000 *ℤ cost m (parts_of h) (prices_of h))) (pos 1 *ℤ b) ≡ true = c (held_prices k) in
       grind (arith, ints)
 
   pub cost_under : (b : ℤ) → CoversPrices m h (Some b) → ∥ Kept m h ∥₁ → pos 0 ≤ℤ (b +ℤ pos 1000 *ℤ h.cost)

@@ -8,7 +8,7 @@ use Rattle.bound.specs.Layers.{fixed, place}
 use Rattle.bound.specs.Steps.{refuse}
 use Rattle.bound.specs.Checks.{allowed, node_at, OverTree}
 use Rattle.bound.specs.Layers.{holding}
-use Rattle.bound.specs.Paths.{held_of, count_of, belowOf, Free, SamePath}
+use Rattle.bound.specs.Paths.{held_of, count_of, below_of, Free, SamePath}
 use Rattle.bound.proofs.Reading.{node_err, node_leaf, node_barred, node_deep, node-off, node-on, node-both}
 use Rattle.bound.proofs.Descent.{allowed_free}
 use Rattle.bound.proofs.Paths.{held_count, deeper, back_up}
@@ -24,7 +24,7 @@ node-returns-in_err-variable g t c =
       file = told.file;
       over = rw p.1 tt;
       path = rw p.1 tt;
-      gives = rw (p.1, p.2) (node_err (fixed (g.P.Programme.table (belowOf f)) (held_of f)) (file_of c.args.reader.now) (place_of c.args.reader.now) (64 - count_of f) _ told.gives);
+      gives = rw (p.1, p.2) (node_err (fixed (g.P.Programme.table (below_of f)) (held_of f)) (file_of c.args.reader.now) (place_of c.args.reader.now) (64 - count_of f) _ told.gives);
     }
 
 pub node-returns-then-not-may_split : goal.node-returns-then-not-may_split
@@ -32,12 +32,12 @@ node-returns-then-not-may_split g t c =
     let told = c.in_ok-variable.ensures in
     let f = c.args.fixing.now in
     let found = told.gives ∙ ap (λ s. Ok (s, place_of c.open.new.reader)) c.in-Branch.is in
-    let barred : allowed (fixed (g.P.Programme.table (belowOf f)) (held_of f)) c.in-Branch.variable ≡ false = sym c.may_split.ensures ∙ c.if-not-may_split.true in
+    let barred : allowed (fixed (g.P.Programme.table (below_of f)) (held_of f)) c.in-Branch.variable ≡ false = sym c.may_split.ensures ∙ c.if-not-may_split.true in
     record {
       file = told.file;
       over = tt;
       path = tt;
-      gives = node_barred (fixed (g.P.Programme.table (belowOf f)) (held_of f)) (file_of c.args.reader.now) (place_of c.args.reader.now) (64 - count_of f) _ _ barred found
+      gives = node_barred (fixed (g.P.Programme.table (below_of f)) (held_of f)) (file_of c.args.reader.now) (place_of c.args.reader.now) (64 - count_of f) _ _ barred found
           ∙ ap (refuse SplitBarred) (sym c.place-place.ensures);
     }
 
@@ -46,12 +46,12 @@ node-returns-then-depth-eq-DEEPEST g t c =
     let told = c.in_ok-variable.ensures in
     let f = c.args.fixing.now in
     let found = told.gives ∙ ap (λ s. Ok (s, place_of c.open.new.reader)) c.in-Branch.is in
-    let may : allowed (fixed (g.P.Programme.table (belowOf f)) (held_of f)) c.in-Branch.variable ≡ true = sym c.may_split.ensures ∙ c.if-not-may_split.false in
+    let may : allowed (fixed (g.P.Programme.table (below_of f)) (held_of f)) c.in-Branch.variable ≡ true = sym c.may_split.ensures ∙ c.if-not-may_split.false in
     record {
       file = told.file;
       over = tt;
       path = tt;
-      gives = node_deep (fixed (g.P.Programme.table (belowOf f)) (held_of f)) (file_of c.args.reader.now) (place_of c.args.reader.now) (64 - count_of f) _ _ (omega (arith, c.requires.0, c.if-depth-eq-DEEPEST.true)) may found
+      gives = node_deep (fixed (g.P.Programme.table (below_of f)) (held_of f)) (file_of c.args.reader.now) (place_of c.args.reader.now) (64 - count_of f) _ _ (omega (arith, c.requires.0, c.if-depth-eq-DEEPEST.true)) may found
           ∙ ap (refuse TooDeep) (sym c.place-place.ensures);
     }
 
@@ -59,7 +59,7 @@ pub node-side-requires : goal.node-side-requires
 node-side-requires g t c κs within =
     let told = c.in_ok-variable.ensures in
     let f = c.args.fixing.now in
-    let table = g.P.Programme.table (belowOf f) in
+    let table = g.P.Programme.table (below_of f) in
     let v = c.in-Branch.variable in
     let found = told.gives ∙ ap (λ s. Ok (s, place_of c.open.new.reader)) c.in-Branch.is in
     let may : allowed (fixed table (held_of f)) v ≡ true = sym c.may_split.ensures ∙ c.if-not-may_split.false in
@@ -70,11 +70,11 @@ node-side-requires g t c κs within =
     let over : OverTree c.open.new.reader = told.over in
     search rules
 
-pub node-returns-in_err-off : goal.node-returns-in_err-off
-node-returns-in_err-off g t c =
+pub node-returns-in_err-off-in-Branch : goal.node-returns-in_err-off-in-Branch
+node-returns-in_err-off-in-Branch g t c =
     let told = c.in_ok-variable.ensures in
     let f = c.args.fixing.now in
-    let program = g.P.Programme.table (belowOf f) in
+    let program = g.P.Programme.table (below_of f) in
     let here = fixed program (held_of f) in
     let file = file_of c.args.reader.now in
     let at = place_of c.args.reader.now in
@@ -84,9 +84,9 @@ node-returns-in_err-off g t c =
     let found = told.gives ∙ ap (λ s. Ok (s, q)) c.in-Branch.is in
     let may : allowed here v ≡ true = sym c.may_split.ensures ∙ c.if-not-may_split.false in
     let more : 64 - count_of f ≡ suc d = omega (arith, c.requires.0, c.if-depth-eq-DEEPEST.false, f.few) in
-    let off = c.in_err-off.ensures in
+    let off = c.in_err-off-in-Branch.ensures in
     let p = err_from_is_err_and c.from_residual-in_err-off.result c.from_residual-in_err-off.ensures.1 in
-    let first : node_at d (holding here v (pos 0)) file q ≡ Err c.in_err-off.field-0.0 =
+    let first : node_at d (holding here v (pos 0)) file q ≡ Err c.in_err-off-in-Branch.field-0.0 =
     (λ i. node_at d (holding here v (pos 0)) (sym told.file i) q) ∙ off.gives in
     record {
       file = off.file ∙ told.file;
@@ -99,7 +99,7 @@ pub node-side-requires-in-Branch : goal.node-side-requires-in-Branch
 node-side-requires-in-Branch g t c κs within =
     let told = c.in_ok-variable.ensures in
     let f = c.args.fixing.now in
-    let table = g.P.Programme.table (belowOf f) in
+    let table = g.P.Programme.table (below_of f) in
     let v = c.in-Branch.variable in
     let found = told.gives ∙ ap (λ s. Ok (s, place_of c.open.new.reader)) c.in-Branch.is in
     let may : allowed (fixed table (held_of f)) v ≡ true = sym c.may_split.ensures ∙ c.if-not-may_split.false in
@@ -107,20 +107,20 @@ node-side-requires-in-Branch g t c κs within =
     let free : place v (held_of f) ≡ count_of f = allowed_free table (held_of f) v known may ∙ held_count g.P.Programme.table f in
     let room : count_of f < 64 = omega (arith, c.requires.0, c.if-depth-eq-DEEPEST.false, f.few) in
     let f' = c.side.new.fixing in
-    let kept : SamePath f f' = c.in_ok-off.ensures.path in
-    let known' : v < (g.P.Programme.table (belowOf f')).variables = subst (λ p. v < (g.P.Programme.table p).variables) (sym kept.2) known in
+    let kept : SamePath f f' = c.in_ok-off-in-Branch.ensures.path in
+    let known' : v < (g.P.Programme.table (below_of f')).variables = subst (λ p. v < (g.P.Programme.table p).variables) (sym kept.2) known in
     let free' : place v (held_of f') ≡ count_of f' = ap (place v) kept.0 ∙ free ∙ sym kept.1 in
     let room' : count_of f' < 64 = omega (arith, room, kept.1) in
     let depth' : c.args.depth ≡ count_of f' = c.requires.0 ∙ sym kept.1 in
-    let can : Free (g.P.Programme.table (belowOf f')).variables f' v = (known', free', room') in
-    let over : OverTree c.side.new.reader = c.in_ok-off.ensures.over in
+    let can : Free (g.P.Programme.table (below_of f')).variables f' v = (known', free', room') in
+    let over : OverTree c.side.new.reader = c.in_ok-off-in-Branch.ensures.over in
     search rules
 
-pub node-returns-in_err-on : goal.node-returns-in_err-on
-node-returns-in_err-on g t c =
+pub node-returns-in_err-on-in-Branch : goal.node-returns-in_err-on-in-Branch
+node-returns-in_err-on-in-Branch g t c =
     let told = c.in_ok-variable.ensures in
     let f = c.args.fixing.now in
-    let program = g.P.Programme.table (belowOf f) in
+    let program = g.P.Programme.table (below_of f) in
     let here = fixed program (held_of f) in
     let file = file_of c.args.reader.now in
     let at = place_of c.args.reader.now in
@@ -130,15 +130,15 @@ node-returns-in_err-on g t c =
     let found = told.gives ∙ ap (λ s. Ok (s, q)) c.in-Branch.is in
     let may : allowed here v ≡ true = sym c.may_split.ensures ∙ c.if-not-may_split.false in
     let more : 64 - count_of f ≡ suc d = omega (arith, c.requires.0, c.if-depth-eq-DEEPEST.false, f.few) in
-    let off = c.in_ok-off.ensures in
+    let off = c.in_ok-off-in-Branch.ensures in
     let mid = place_of c.side.new.reader in
     let f' = c.side.new.fixing in
     let kept : SamePath f f' = off.path in
-    let first : node_at d (holding here v (pos 0)) file q ≡ Ok (c.in_ok-off.off, mid) =
+    let first : node_at d (holding here v (pos 0)) file q ≡ Ok (c.in_ok-off-in-Branch.off, mid) =
     (λ i. node_at d (holding here v (pos 0)) (sym told.file i) q) ∙ off.gives in
-    let moved : node_at d (holding here v (pos 1)) file mid ≡ node_at (63 - count_of f') (holding (fixed (g.P.Programme.table (belowOf f')) (held_of f')) v (pos 1)) (file_of c.side.new.reader) mid =
+    let moved : node_at d (holding here v (pos 1)) file mid ≡ node_at (63 - count_of f') (holding (fixed (g.P.Programme.table (below_of f')) (held_of f')) v (pos 1)) (file_of c.side.new.reader) mid =
     λ i. node_at (63 - sym kept.1 i) (holding (fixed (g.P.Programme.table (sym kept.2 i)) (sym kept.0 i)) v (pos 1)) (sym (off.file ∙ told.file) i) mid in
-    let on = c.in_err-on.ensures in
+    let on = c.in_err-on-in-Branch.ensures in
     let p = err_from_is_err_and c.from_residual-in_err-on.result c.from_residual-in_err-on.ensures.1 in
     record {
       file = on.file ∙ off.file ∙ told.file;
@@ -147,11 +147,11 @@ node-returns-in_err-on g t c =
       gives = rw (p.1, p.2) (node-on here file at (64 - count_of f) d v q more may found _ mid _ first (moved ∙ on.gives));
     }
 
-pub node-returns-in_ok-on : goal.node-returns-in_ok-on
-node-returns-in_ok-on g t c =
+pub node-returns-in_ok-on-in-Branch : goal.node-returns-in_ok-on-in-Branch
+node-returns-in_ok-on-in-Branch g t c =
     let told = c.in_ok-variable.ensures in
     let f = c.args.fixing.now in
-    let program = g.P.Programme.table (belowOf f) in
+    let program = g.P.Programme.table (below_of f) in
     let here = fixed program (held_of f) in
     let file = file_of c.args.reader.now in
     let at = place_of c.args.reader.now in
@@ -161,17 +161,17 @@ node-returns-in_ok-on g t c =
     let found = told.gives ∙ ap (λ s. Ok (s, q)) c.in-Branch.is in
     let may : allowed here v ≡ true = sym c.may_split.ensures ∙ c.if-not-may_split.false in
     let more : 64 - count_of f ≡ suc d = omega (arith, c.requires.0, c.if-depth-eq-DEEPEST.false, f.few) in
-    let off = c.in_ok-off.ensures in
+    let off = c.in_ok-off-in-Branch.ensures in
     let mid = place_of c.side.new.reader in
     let f' = c.side.new.fixing in
     let kept : SamePath f f' = off.path in
-    let first : node_at d (holding here v (pos 0)) file q ≡ Ok (c.in_ok-off.off, mid) =
+    let first : node_at d (holding here v (pos 0)) file q ≡ Ok (c.in_ok-off-in-Branch.off, mid) =
     (λ i. node_at d (holding here v (pos 0)) (sym told.file i) q) ∙ off.gives in
-    let moved : node_at d (holding here v (pos 1)) file mid ≡ node_at (63 - count_of f') (holding (fixed (g.P.Programme.table (belowOf f')) (held_of f')) v (pos 1)) (file_of c.side.new.reader) mid =
+    let moved : node_at d (holding here v (pos 1)) file mid ≡ node_at (63 - count_of f') (holding (fixed (g.P.Programme.table (below_of f')) (held_of f')) v (pos 1)) (file_of c.side.new.reader) mid =
     λ i. node_at (63 - sym kept.1 i) (holding (fixed (g.P.Programme.table (sym kept.2 i)) (sym kept.0 i)) v (pos 1)) (sym (off.file ∙ told.file) i) mid in
-    let on = c.in_ok-on.ensures in
+    let on = c.in_ok-on-in-Branch.ensures in
     let kept' : SamePath f' c.side-in-Branch.new.fixing = on.path in
-    let greater = to_z-of_z w64 c.max.result (search rules) ∙ c.max.ensures.value ∙ (λ i. int_max (to_z-of_z w64 c.in_ok-off.off (search rules) i) (to_z-of_z w64 c.in_ok-on.on (search rules) i)) in
+    let greater = to_z-of_z w64 c.max.result (search rules) ∙ c.max.ensures.value ∙ (λ i. int_max (to_z-of_z w64 c.in_ok-off-in-Branch.off (search rules) i) (to_z-of_z w64 c.in_ok-on-in-Branch.on (search rules) i)) in
     record {
       file = on.file ∙ off.file ∙ told.file;
       over = on.over;
@@ -190,7 +190,7 @@ node-returns-in-Leaf g t c =
       file = told.file;
       over = told.over;
       path = (refl, refl, refl);
-      gives = node_leaf (fixed (g.P.Programme.table (belowOf f)) (held_of f)) (file_of c.args.reader.now) (place_of c.args.reader.now) (64 - count_of f) _ q found
+      gives = node_leaf (fixed (g.P.Programme.table (below_of f)) (held_of f)) (file_of c.args.reader.now) (place_of c.args.reader.now) (64 - count_of f) _ q found
           ∙ ap (λ b. Ok (b, q)) (sym (to_z-of_z w64 c.in-Leaf.bound (search rules)));
     }
 

@@ -54,8 +54,8 @@ returns-in-Split g c =
       gives = gives_then _ c.branch-variable_count.result q (walk.2 ∙ leaf_ok walk.0 t file ws at walk.1 _ q step ∙ ap (λ r. and_then r (λ f. Ok (f, q))) (sym is));
     }
 
-pub returns-in_err-judged : goal.returns-in_err-judged
-returns-in_err-judged g c =
+pub returns-in_err-judged-in-Row : goal.returns-in_err-judged-in-Row
+returns-in_err-judged-in-Row g c =
     let inv = c.loop-variable.invariant in
     let walk = inv.6 in
     let told = c.in_ok-variable.ensures in
@@ -93,14 +93,14 @@ loop-variable-preserved g c =
     let weights = c.loop-variable.weights in
     let count = c.loop-variable.count in
     let ws = take count weights in
-    let w = c.in_ok-judged.judged in
+    let w = c.in_ok-judged-in-Row.judged in
     let row : SFits w64 c.in-Row.row = search rules in
     let weight : SFits w64 c.in-Row.weight = search rules in
     let few : count ≤ length weights = omega (arith, inv.2, inv.3, inv.4, (g.P.Programme.lawful program).few_rows) in
     let size : count ≡ length ws = sym (length-take-le count weights few) in
     let step = ap (λ f. step_at f at) (sym inv.0) ∙ told.gives ∙ ap (λ s. Ok (s, q)) c.in-Row.is in
     let is : judged (length ws) (next_row ws) t.rows c.in-Row.row c.in-Row.weight at ≡ Ok w =
-    sym (sym c.in_ok-judged.was ∙ c.judge.ensures ∙ (λ i. judged (size i) (sym inv.5 i) (c.rows.ensures i) (to_z-of_z w64 c.in-Row.row row i) (to_z-of_z w64 c.in-Row.weight weight i) (c.place-place.ensures i))) in
+    sym (sym c.in_ok-judged-in-Row.was ∙ c.judge.ensures ∙ (λ i. judged (size i) (sym inv.5 i) (c.rows.ensures i) (to_z-of_z w64 c.in-Row.row row i) (to_z-of_z w64 c.in-Row.weight weight i) (c.place-place.ensures i))) in
     let good = accepted (length ws) (next_row ws) t.rows c.in-Row.row c.in-Row.weight at w is in
     let after : count ≤ w.row = rises_past count (length ws) (next_row ws) w.row size (omega (arith, inv.3, inv.5)) good.rises in
     let room : count < length weights = omega (arith, inv.2, after, good.there, (g.P.Programme.lawful program).few_rows) in

@@ -42,7 +42,7 @@ invariant_of-self g c =
     let same : to_z w64 (of_z w64 c.args.value) ≡ c.args.value = to_z-of_z w64 _ c.ranges.value in
     let row : SmallRow (set self.row at record { variable = c.args.v; value = to_z w64 (of_z w64 c.args.value) }) =
     small_set self.row at _ self.small (rw same small) (omega arith) in
-    (omega (arith, c.if-at-self.true), (simp length-set long, (row, tt)))
+    record { few = omega (arith, c.if-at-self.true); long = simp length-set long; small = row }
 
 pub invariant_of-self-else-at-self : goal.invariant_of-self-else-at-self
 invariant_of-self-else-at-self g c =
@@ -57,7 +57,7 @@ invariant_of-self-else-at-self g c =
     let same : to_z w64 (of_z w64 c.args.value) ≡ c.args.value = to_z-of_z w64 _ c.ranges.value in
     let row : SmallRow (set self.row at record { variable = c.args.v; value = to_z w64 (of_z w64 c.args.value) }) =
     small_set self.row at _ self.small (rw same small) (omega arith) in
-    (self.few, (simp length-set long, (row, tt)))
+    record { few = self.few; long = simp length-set long; small = row }
 
 pub returns-then-at-self : goal.returns-then-at-self
 returns-then-at-self g c =

@@ -27,7 +27,11 @@ invariant_of-result g c =
     let done : c.loop-v.v ≡ t.variables = omega (arith, c.variable_count-v-end.ensures, c.loop-v-test.false, c.loop-v.auto.v-end) in
     let P : ℕ → Type 0 = λ n. (k : ℕ) → line c.loop-v.lines k ≡ cond (ltb k n) (line_of t k) no_line in
     let copied = subst P done c.loop-v.invariant.1 in
-    (copied_ordered t l c.loop-v.lines copied, (copied_low t l c.loop-v.lines copied, (copied_high t l c.loop-v.lines copied, tt)))
+    record {
+      ordered = copied_ordered t l c.loop-v.lines copied;
+      smalllow = copied_low t l c.loop-v.lines copied;
+      smallhigh = copied_high t l c.loop-v.lines copied;
+    }
 
 pub returns : goal.returns
 returns g c =

@@ -15,45 +15,34 @@ invariant_of-self c =
     let room = leb-false 96 (length (vec_items b.baskets)) ad.room in
     let is = c.push_reserved.ensures.items in
     let bs = vec_items b.baskets in
-    let more = vec_items c.push_reserved.new.self in (
-      (
+    let more = vec_items c.push_reserved.new.self in record {
+      few = (
         b.few.0,
         b.few.1,
         omega (arith, b.baskets.ok.0, room),
         b.few.3,
-      ),
-      (
-        (
+      );
+      room = (
           b.room.0,
           b.room.1,
           search rules,
           b.room.3,
-        ),
-        (
-          (
+        );
+      spans = (
             b.spans.0,
             b.spans.1,
-          ),
-          (
-            (
+          );
+      asks = (
               b.asks.0,
               b.asks.1,
-            ),
-            (
-              (
+            );
+      offers = (
                 each_push no_basket c.args.basket _ _ is basket_ok true b.offers.0 c.requires.0,
                 each_push no_basket c.args.basket _ _ is (basket_absent (vec_items b.windows)) false b.offers.1 ad.there,
                 pairs_push no_basket c.args.basket _ _ is (breaks (vec_items b.windows)) b.offers.2 ad.keeps,
-              ),
-              (
-                (
+              );
+      adds = (
                   b.adds.0,
                   each_weaker no_extra (vec_items b.extras) (extra_absent (vec_items b.windows) bs) (extra_absent (vec_items b.windows) more) false (extra_stays_basket (vec_items b.windows) bs more c.args.basket is) b.adds.1,
-                ),
-                tt,
-              ),
-            ),
-          ),
-        ),
-      ),
-    )
+                );
+    }

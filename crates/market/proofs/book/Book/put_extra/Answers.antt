@@ -20,45 +20,34 @@ invariant_of-self c =
     let b = c.args.self.now in
     let ad = admitted (market_of b) (OfExtra c.args.extra) c.requires.1 in
     let room = leb-false 96 (length (vec_items b.extras)) ad.room in
-    let is = c.push_reserved.ensures.items in (
-      (
+    let is = c.push_reserved.ensures.items in record {
+      few = (
         b.few.0,
         b.few.1,
         b.few.2,
         omega (arith, b.extras.ok.0, room),
-      ),
-      (
-        (
+      );
+      room = (
           b.room.0,
           b.room.1,
           b.room.2,
           search rules,
-        ),
-        (
-          (
+        );
+      spans = (
             b.spans.0,
             b.spans.1,
-          ),
-          (
-            (
+          );
+      asks = (
               b.asks.0,
               b.asks.1,
-            ),
-            (
-              (
+            );
+      offers = (
                 b.offers.0,
                 b.offers.1,
                 b.offers.2,
-              ),
-              (
-                (
+              );
+      adds = (
                   each_push no_extra c.args.extra _ _ is extra_ok true b.adds.0 c.requires.0,
                   each_push no_extra c.args.extra _ _ is (extra_absent (vec_items b.windows) (vec_items b.baskets)) false b.adds.1 ad.there,
-                ),
-                tt,
-              ),
-            ),
-          ),
-        ),
-      ),
-    )
+                );
+    }
