@@ -13,8 +13,7 @@ import re
 import sys
 
 NAME = r"[^\s(){}\[\].,;:@«»\"`]+"
-HEAD = re.compile(rf"(?:(?:unfoldable|abbrev|pub|record|data) )*({NAME})\s*[:({{]")
-FIELD = re.compile(rf"  (?:(?:unfoldable|abbrev|pub|record|data) )*({NAME})\s*[:({{]")
+HEAD = re.compile(rf"( *)((?:(?:unfoldable|abbrev|pub|record|data) )*)({NAME})\s*[:({{]")
 MADE = {"Answers.antt", "Invariants.antt", "Proof.antt"}
 KEYWORDS = {"use", "mod", "pub", "unfolding", "record", "data", "where"}
 
@@ -52,16 +51,19 @@ def respelled(name):
 
 
 def own_names(files):
+    """The names that a text declares: at most two blanks in, behind `pub`, or with a line below that defines the name."""
     names = set()
     for file in files:
         if file.suffix != ".antt" or file.name in MADE:
             continue
-        for line in file.read_text().splitlines():
-            if line.startswith("--"):
+        text = file.read_text()
+        for line in text.splitlines():
+            match = HEAD.match(line)
+            if line.lstrip().startswith("--") or not match or match.group(3) in KEYWORDS:
                 continue
-            match = FIELD.match(line) if line.startswith("  ") else HEAD.match(line)
-            if match and match.group(1) not in KEYWORDS:
-                names.add(match.group(1))
+            blanks, words, name = match.groups()
+            if len(blanks) <= 2 or "pub" in words or re.search(rf"^{blanks}{re.escape(name)} .*=", text, re.M):
+                names.add(name)
     return names
 
 

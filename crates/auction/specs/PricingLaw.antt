@@ -15,7 +15,7 @@ use Rattle.auction.specs.declared.rows.PriceRow.TheVariants.{Extra, Basket, Loop
 use Rattle.auction.specs.Orders.{buy_line}
 use Rattle.auction.specs.Acceptance.{first}
 use Rattle.auction.specs.Pricing.{pricing, priced, on_lines, price_numbers, price_side, price_row, basket_row, market_sum, Numbered}
-use Rattle.auction.specs.Sizes.{small, wider, within_pos, within_neg, within_zero, within_if, floor_within, buy_price, extra_measure_within, basket-sum-within, loop-sum-within, market-sum-within}
+use Rattle.auction.specs.Sizes.{small, wider, within_pos, within_neg, within_zero, within_if, floor_within, buy_price, extra_measure_within, basket_sum_within, loop_sum_within, market_sum_within}
 
 past_lines : (f : ℕ → ℤ) (l : ℕ) → 192 ≤ l → on_lines f l ≡ pos 0
 past_lines f l h = cond-false (nat_lt l 192) (f l) (pos 0) (le-ltb l 192 h)
@@ -27,15 +27,15 @@ in_order false s = omega (arith, ints)
 module _ (m : Market) (good : Lawful m) (X : ℕ → ℤ) (parts : (v : ℕ) → v < 256 → Within 10000 (X v)) where
   row_within : (r : PriceRow) → Numbered r → (l : ℕ) → Within 93109756893120000 (price_numbers m X r l)
   row_within (Extra k) n l = within_neg 93109756893120000 _ (wider 999890001 93109756893120000 _ (omega arith) (extra_measure_within m good (On l) k))
-  row_within (Basket b) n l = within_neg 93109756893120000 _ (wider 969893300970000 93109756893120000 _ (omega arith) (basket-sum-within m good X parts (On l) b n))
-  row_within (Loop b) n l = within_neg 93109756893120000 _ (loop-sum-within m good X parts (On l) (basket_at m b).ring)
+  row_within (Basket b) n l = within_neg 93109756893120000 _ (wider 969893300970000 93109756893120000 _ (omega arith) (basket_sum_within m good X parts (On l) b n))
+  row_within (Loop b) n l = within_neg 93109756893120000 _ (loop_sum_within m good X parts (On l) (basket_at m b).ring)
   row_within (Buy i) n l = within_if 93109756893120000 (l == buy_line m i) (pos 1) (within_pos 93109756893120000 1 (omega arith))
   row_within Zero n l = within_zero 93109756893120000
 
   side_within : (r : PriceRow) → Numbered r → Within 93109756893120000 (price_side m X r)
   side_within (Extra k) n = within_neg 93109756893120000 _ (wider 999890001 93109756893120000 _ (omega arith) (extra_measure_within m good Value k))
-  side_within (Basket b) n = within_neg 93109756893120000 _ (wider 969893300970000 93109756893120000 _ (omega arith) (basket-sum-within m good X parts Value b n))
-  side_within (Loop b) n = within_neg 93109756893120000 _ (loop-sum-within m good X parts Value (basket_at m b).ring)
+  side_within (Basket b) n = within_neg 93109756893120000 _ (wider 969893300970000 93109756893120000 _ (omega arith) (basket_sum_within m good X parts Value b n))
+  side_within (Loop b) n = within_neg 93109756893120000 _ (loop_sum_within m good X parts Value (basket_at m b).ring)
   side_within (Buy i) n = wider 99999 93109756893120000 _ (omega arith) (buy_price m good i)
   side_within Zero n = within_zero 93109756893120000
 
@@ -75,7 +75,7 @@ module _ (m : Market) (good : Lawful m) (X : ℕ → ℤ) (parts : (v : ℕ) →
         ordered = λ l. in_order (priced m l) (window_at m (l / 6)).service;
         small_low = λ l. small 99999 _ (omega arith) (within_if 99999 (priced m l) _ (floor_within (window_at m (l / 6)).service));
         small_high = λ l. small 99999 _ (omega arith) (within_if 99999 (priced m l) _ (within_pos 99999 99999 (omega arith)));
-        small_objective = λ l. small 1919788801920000 _ (omega arith) (within_if 1919788801920000 (nat_lt l 192) _ (within_neg 1919788801920000 _ (market-sum-within m good X parts (On l))));
+        small_objective = λ l. small 1919788801920000 _ (omega arith) (within_if 1919788801920000 (nat_lt l 192) _ (within_neg 1919788801920000 _ (market_sum_within m good X parts (On l))));
         small_coefficient = λ r l. small 93109756893120000 _ (omega arith) (within_if 93109756893120000 (nat_lt l 192) _ (row_within (price_row m X r) (numbered r) l));
         small_side = λ r. small 93109756893120000 _ (omega arith) (side_within (price_row m X r) (numbered r));
         past_low = λ l h. cond-false (priced m l) _ (pos 0) (unpriced l h);

@@ -122,31 +122,31 @@ module _ (m : Market) (good : Lawful m) where
 
   -- the parts of the 256 variables are at most 10,000
   module _ (X : ℕ → ℤ) (parts : (v : ℕ) → v < 256 → Within 10000 (X v)) where
-    pub parent-within : (a : Measure) (b : ℕ) → b < 96 → Within 9998900010000 (parent_sum m X a b)
-    parent-within a b h = within_times 999890001 10000 _ _ (parent_measure_within a b) (parts (64 + b) (omega arith))
+    pub parent_within : (a : Measure) (b : ℕ) → b < 96 → Within 9998900010000 (parent_sum m X a b)
+    parent_within a b h = within_times 999890001 10000 _ _ (parent_measure_within a b) (parts (64 + b) (omega arith))
 
-    pub extra-within : (a : Measure) (k : ℕ) → k < 96 → Within 9998900010000 (extra_sum m X a k)
-    extra-within a k h = within_times 999890001 10000 _ _ (extra_measure_within a k) (parts (160 + k) (omega arith))
+    pub extra_within : (a : Measure) (k : ℕ) → k < 96 → Within 9998900010000 (extra_sum m X a k)
+    extra_within a k h = within_times 999890001 10000 _ _ (extra_measure_within a k) (parts (160 + k) (omega arith))
 
-    pub of-basket-within : (a : Measure) (b k : ℕ) → k < 96 → Within 9998900010000 (of_basket m X a b k)
-    of-basket-within a b k h = within_if 9998900010000 ((extra_at m k).basket == b) (extra_sum m X a k) (extra-within a k h)
+    pub of_basket_within : (a : Measure) (b k : ℕ) → k < 96 → Within 9998900010000 (of_basket m X a b k)
+    of_basket_within a b k h = within_if 9998900010000 ((extra_at m k).basket == b) (extra_sum m X a k) (extra_within a k h)
 
-    pub few-within : (n size : ℕ) (f : ℕ → ℤ) → n ≤ 96 → ((i : ℕ) → i < 96 → Within size (f i)) → Within (96 * size) (sum_to n f)
-    few-within n size f l h = wider (n * size) (96 * size) _ (mul-le-mul_right size l) (sum_within n size f (λ i g. h i (omega arith)))
+    pub few_within : (n size : ℕ) (f : ℕ → ℤ) → n ≤ 96 → ((i : ℕ) → i < 96 → Within size (f i)) → Within (96 * size) (sum_to n f)
+    few_within n size f l h = wider (n * size) (96 * size) _ (mul-le-mul_right size l) (sum_within n size f (λ i g. h i (omega arith)))
 
-    pub basket-sum-within : (a : Measure) (b : ℕ) → b < 96 → Within 969893300970000 (basket_sum m X a b)
-    basket-sum-within a b h =
-        within_add 9998900010000 959894400960000 _ _ (parent-within a b h)
-        (few-within (length m.extras) 9998900010000 (of_basket m X a b) good.few_extras (of-basket-within a b))
+    pub basket_sum_within : (a : Measure) (b : ℕ) → b < 96 → Within 969893300970000 (basket_sum m X a b)
+    basket_sum_within a b h =
+        within_add 9998900010000 959894400960000 _ _ (parent_within a b h)
+        (few_within (length m.extras) 9998900010000 (of_basket m X a b) good.few_extras (of_basket_within a b))
 
-    pub of-loop-within : (a : Measure) (r b : ℕ) → b < 96 → Within 969893300970000 (of_loop m X a r b)
-    of-loop-within a r b h = within_if 969893300970000 ((basket_at m b).ring == r) (basket_sum m X a b) (basket-sum-within a b h)
+    pub of_loop_within : (a : Measure) (r b : ℕ) → b < 96 → Within 969893300970000 (of_loop m X a r b)
+    of_loop_within a r b h = within_if 969893300970000 ((basket_at m b).ring == r) (basket_sum m X a b) (basket_sum_within a b h)
 
-    pub loop-sum-within : (a : Measure) (r : ℕ) → Within 93109756893120000 (loop_sum m X a r)
-    loop-sum-within a r = few-within (length m.baskets) 969893300970000 (of_loop m X a r) good.few_baskets (of-loop-within a r)
+    pub loop_sum_within : (a : Measure) (r : ℕ) → Within 93109756893120000 (loop_sum m X a r)
+    loop_sum_within a r = few_within (length m.baskets) 969893300970000 (of_loop m X a r) good.few_baskets (of_loop_within a r)
 
-    pub market-sum-within : (a : Measure) → Within 1919788801920000 (market_sum m X a)
-    market-sum-within a =
+    pub market_sum_within : (a : Measure) → Within 1919788801920000 (market_sum m X a)
+    market_sum_within a =
         within_add 959894400960000 959894400960000 _ _
-        (few-within (length m.baskets) 9998900010000 (parent_sum m X a) good.few_baskets (parent-within a))
-        (few-within (length m.extras) 9998900010000 (extra_sum m X a) good.few_extras (extra-within a))
+        (few_within (length m.baskets) 9998900010000 (parent_sum m X a) good.few_baskets (parent_within a))
+        (few_within (length m.extras) 9998900010000 (extra_sum m X a) good.few_extras (extra_within a))

@@ -21,8 +21,8 @@ use Rattle.bound.specs.Checks.{placed, branching, judged, closing, next_row, lea
 use Rattle.bound.specs.Layers.{holding}
 use Rattle.bound.specs.Trees.{Tree, leaf, split, Weighs, Rising, Sits, tree_bound, leaf_bytes, tree_bytes}
 use Rattle.bound.proofs.Duality.{after_is, some_is}
-use Rattle.bound.proofs.Reading.{step_ok, leaf_ok, node_leaf, node-both}
-use Rattle.bound.proofs.Sound.{whole-checked}
+use Rattle.bound.proofs.Reading.{step_ok, leaf_ok, node_leaf, node_both}
+use Rattle.bound.proofs.Sound.{whole_checked}
 
 -- what a row's test asks
 least_is : (a b : ℤ) → a ≤ℤ b → le_z a b ≡ true
@@ -130,11 +130,11 @@ module _ (file : List ℕ) where
       let on = tree_reads n (holding t v (pos 1)) c y.0 m rest vars rows at₂ sits.5 y.1 in
       let size : m + length (tree_bytes c) ≡ p + length (here ++ (tree_bytes a ++ tree_bytes c)) =
       omega (arith, length-append here (tree_bytes a ++ tree_bytes c), length-append (tree_bytes a) (tree_bytes c)) in
-      node-both t file p (suc n) n v q refl (allowed_yes t v sits.1 sits.2 sits.3) found x.0 m y.0 _ off on
+      node_both t file p (suc n) n v q refl (allowed_yes t v sits.1 sits.2 sits.3) found x.0 m y.0 _ off on
       ∙ (λ i. Ok (some_is (int_max x.0 y.0) b y.2 i, size i))
 
 pub accepts : (t : Table) (file : List ℕ) (tree : Tree) (b : ℤ) → Lawful t → file ≡ tree_bytes tree → length file ≤ 65535 → Sits 64 t tree → tree_bound t tree ≡ Some b → checked t file ≡ Ok b
 accepts t file tree b lawful is short sits bound =
     let at : At file 0 (tree_bytes tree) [] = record { stands = is ∙ sym (append-nil (tree_bytes tree)); within = omega arith } in
     let ended : length file ≤ 0 + length (tree_bytes tree) = omega (arith, ap length is) in
-    whole-checked t file short b _ (tree_reads file 64 t tree b 0 [] lawful.few_variables lawful.few_rows at sits bound) ended
+    whole_checked t file short b _ (tree_reads file 64 t tree b 0 [] lawful.few_variables lawful.few_rows at sits bound) ended

@@ -26,11 +26,11 @@ module _ (t : Table) (ws : List Weight) (n : ℕ) (start : ℤ) (v : ℕ) (y : �
   part_refused refused = stopped (part t ws v) _ refused ∙ sym turn
 
   module _ {p : ℤ} (made : Some p ≡ part t ws v) where
-    turn-sum : parts t ws n 0 start ≡ after (plus y p) (parts t ws (n - (v + 1)) (v + 1))
-    turn-sum = turn ∙ went (part t ws v) _ made
+    turn_sum : parts t ws n 0 start ≡ after (plus y p) (parts t ws (n - (v + 1)) (v + 1))
+    turn_sum = turn ∙ went (part t ws v) _ made
 
-    pub sum-refused : None ≡ plus y p → None ≡ parts t ws n 0 start
-    sum-refused refused = stopped (plus y p) _ refused ∙ sym turn-sum
+    pub sum_refused : None ≡ plus y p → None ≡ parts t ws n 0 start
+    sum_refused refused = stopped (plus y p) _ refused ∙ sym turn_sum
 
     pub parts_more : {z : ℤ} → Some z ≡ plus y p → parts t ws (n - (v + 1)) (v + 1) z ≡ parts t ws n 0 start
-    parts_more added = sym (turn-sum ∙ went (plus y p) _ added)
+    parts_more added = sym (turn_sum ∙ went (plus y p) _ added)

@@ -85,8 +85,8 @@ module _ (t : Table) (file : List ℕ) (p : ℕ) where
 
   -- a split: its 0 side is refused, its 1 side is refused, or neither
   module _ (n m v q : ℕ) (more : n ≡ suc m) (may : allowed t v ≡ true) (is : found_at t file p ≡ Ok (Branch v, q)) where
-    node-split : node_at n t file p ≡ below (suc m) v q
-    node-split = node_open n ∙ ap (after (below n)) is ∙ cond-true _ _ _ may ∙ ap (λ k. below k v q) more
+    node_split : node_at n t file p ≡ below (suc m) v q
+    node_split = node_open n ∙ ap (after (below n)) is ∙ cond-true _ _ _ may ∙ ap (λ k. below k v q) more
 
     abbrev second : ℤ → Result (ℤ × ℕ) Refusal → Result (ℤ × ℕ) Refusal
     second a r = and_then r (λ b. Ok (int_max a b.0, b.1))
@@ -94,11 +94,11 @@ module _ (t : Table) (file : List ℕ) (p : ℕ) where
     abbrev first : Result (ℤ × ℕ) Refusal → Result (ℤ × ℕ) Refusal
     first r = and_then r (λ a. second a.0 (node_at m (holding t v (pos 1)) file a.1))
 
-    pub node-off : (e : Refusal) → node_at m (holding t v (pos 0)) file q ≡ Err e → node_at n t file p ≡ Err e
-    node-off e off = node-split ∙ ap first off
+    pub node_off : (e : Refusal) → node_at m (holding t v (pos 0)) file q ≡ Err e → node_at n t file p ≡ Err e
+    node_off e off = node_split ∙ ap first off
 
-    pub node-on : (a : ℤ) (k : ℕ) (e : Refusal) → node_at m (holding t v (pos 0)) file q ≡ Ok (a, k) → node_at m (holding t v (pos 1)) file k ≡ Err e → node_at n t file p ≡ Err e
-    node-on a k e off on = node-split ∙ ap first off ∙ ap (second a) on
+    pub node_on : (a : ℤ) (k : ℕ) (e : Refusal) → node_at m (holding t v (pos 0)) file q ≡ Ok (a, k) → node_at m (holding t v (pos 1)) file k ≡ Err e → node_at n t file p ≡ Err e
+    node_on a k e off on = node_split ∙ ap first off ∙ ap (second a) on
 
-    pub node-both : (a : ℤ) (k : ℕ) (b : ℤ) (l : ℕ) → node_at m (holding t v (pos 0)) file q ≡ Ok (a, k) → node_at m (holding t v (pos 1)) file k ≡ Ok (b, l) → node_at n t file p ≡ Ok (int_max a b, l)
-    node-both a k b l off on = node-split ∙ ap first off ∙ ap (second a) on
+    pub node_both : (a : ℤ) (k : ℕ) (b : ℤ) (l : ℕ) → node_at m (holding t v (pos 0)) file q ≡ Ok (a, k) → node_at m (holding t v (pos 1)) file k ≡ Ok (b, l) → node_at n t file p ≡ Ok (int_max a b, l)
+    node_both a k b l off on = node_split ∙ ap first off ∙ ap (second a) on

@@ -138,17 +138,17 @@ module _ (t : Table) (file : List ℕ) where
   ending b = finished file b.0 b.1
 
   module _ (short : length file ≤ 65535) where
-    open-checked : checked t file ≡ and_then (node_at 64 t file 0) ending
-    open-checked = cond-false _ _ _ (le-ltb 65535 (length file) short)
+    open_checked : checked t file ≡ and_then (node_at 64 t file 0) ending
+    open_checked = cond-false _ _ _ (le-ltb 65535 (length file) short)
 
-    pub refused-checked : (e : Refusal) → node_at 64 t file 0 ≡ Err e → checked t file ≡ Err e
-    refused-checked e node = open-checked ∙ ap (λ r. and_then r ending) node
+    pub refused_checked : (e : Refusal) → node_at 64 t file 0 ≡ Err e → checked t file ≡ Err e
+    refused_checked e node = open_checked ∙ ap (λ r. and_then r ending) node
 
-    pub finished-checked : (b : ℤ) (q : ℕ) → node_at 64 t file 0 ≡ Ok (b, q) → checked t file ≡ finished file b q
-    finished-checked b q node = open-checked ∙ ap (λ r. and_then r ending) node
+    pub finished_checked : (b : ℤ) (q : ℕ) → node_at 64 t file 0 ≡ Ok (b, q) → checked t file ≡ finished file b q
+    finished_checked b q node = open_checked ∙ ap (λ r. and_then r ending) node
 
-    pub whole-checked : (b : ℤ) (q : ℕ) → node_at 64 t file 0 ≡ Ok (b, q) → length file ≤ q → checked t file ≡ Ok b
-    whole-checked b q node ended = finished-checked b q node ∙ cond-true _ _ _ (le-leb (length file) q ended)
+    pub whole_checked : (b : ℤ) (q : ℕ) → node_at 64 t file 0 ≡ Ok (b, q) → length file ≤ q → checked t file ≡ Ok b
+    whole_checked b q node ended = finished_checked b q node ∙ cond-true _ _ _ (le-leb (length file) q ended)
 
 -- a whole file that was accepted
 pub checked_is : (t : Table) (file : List ℕ) (b : ℤ) → checked t file ≡ Ok b → (q : ℕ) × (length file ≤ q) × (node_at 64 t file 0 ≡ Ok (b, q))

@@ -109,10 +109,10 @@ module _ (m : Market) (one : (c : Call) (g h : Held) → Offers m c g → Offers
       subst (λ (g : Held). Least no_call (price_limit m g) past p.since t.price) (sym h.1)
       (subst (λ (k : ℕ). Least no_call (price_limit m t.held) past k t.price) (sym h.0) q.price) in
       let r = least_one no_call (price_limit m s.held) past p.since s.price t.price p.price w in
-      same-standing s t (p.market ∙ sym q.market) h.1 b r
+      same_standing s t (p.market ∙ sym q.market) h.1 b r
     where
-      same-standing : (s t : Standing) → s.market ≡ t.market → s.held ≡ t.held → s.bound ≡ t.bound → s.price ≡ t.price → s ≡ t
-      same-standing s t a b c d =
+      same_standing : (s t : Standing) → s.market ≡ t.market → s.held ≡ t.held → s.bound ≡ t.bound → s.price ≡ t.price → s ≡ t
+      same_standing s t a b c d =
           ap (λ (u : Market). record { market = u; held = s.held; bound = s.bound; price = s.price }) a
           ∙ (ap (λ (u : Held). record { market = t.market; held = u; bound = s.bound; price = s.price }) b
           ∙ (ap (λ (u : Option ℤ). record { market = t.market; held = t.held; bound = u; price = s.price }) c

@@ -121,20 +121,20 @@ judged_one s file was then old after v w n a b = ⊎_elim
     (λ (h : length was < 448).
     let p = (a.short h).0 in
     let q = (b.short (omega arith)).0 in
-    (p ∙ sym q, refused-same v w (p) (q)))
+    (p ∙ sym q, refused_same v w (p) (q)))
     (λ (h : 448 ≤ length was). ⊎_elim
     (λ (l : 65535 < length file).
     let p = (a.long h l).0 in
     let q = (b.long (omega arith) l).0 in
-    (p ∙ sym q, refused-same v w p q))
+    (p ∙ sym q, refused_same v w p q))
     (λ (l : length file ≤ 65535).
     let o = told_one s.market file v w (take 448 then) (take 448 after) (a.told h l).0 (b.told (omega arith) l).0 in
     (o.0, stands v w o.0 o.1))
     (cases_lt 65535 (length file)))
     (cases_lt (length was) 448)
   where
-    refused-same : (v w : Result Worth Refusal) {e : Refusal} → v ≡ Err e → w ≡ Err e → after_worth s v (take 448 then) ≡ after_worth s w (take 448 after)
-    refused-same v w p q = ap (λ (x : Result Worth Refusal). after_worth s x (take 448 then)) p ∙ sym (ap (λ (x : Result Worth Refusal). after_worth s x (take 448 after)) q)
+    refused_same : (v w : Result Worth Refusal) {e : Refusal} → v ≡ Err e → w ≡ Err e → after_worth s v (take 448 then) ≡ after_worth s w (take 448 after)
+    refused_same v w p q = ap (λ (x : Result Worth Refusal). after_worth s x (take 448 then)) p ∙ sym (ap (λ (x : Result Worth Refusal). after_worth s x (take 448 after)) q)
 
     stands : (v w : Result Worth Refusal) → v ≡ w → ((x : Worth) → v ≡ Ok x → take 448 then ≡ take 448 after) → after_worth s v (take 448 then) ≡ after_worth s w (take 448 after)
     stands (Ok x) w e f = ap (after_worth s (Ok x)) (f x refl) ∙ ap (λ (y : Result Worth Refusal). after_worth s y (take 448 after)) e

@@ -24,17 +24,17 @@ module _ (m : Market) (X Y : ℕ → ℤ) where
       (subst (λ a. Decides t ((pos 0 <ℤ a) × (o.permit ≡ false) × (o.price <ℤ cast y))) (casts_parts x v ∙ f) d))
 
   module _ (b : ℕ) (o : Basket) (e : o ≡ basket_at m b) where
-    ring-is : o.ring ≡ (basket_at m b).ring
-    ring-is = ap (λ (o : Basket). o.ring) e
+    ring_is : o.ring ≡ (basket_at m b).ring
+    ring_is = ap (λ (o : Basket). o.ring) e
 
-    pub unlooped-sunk : (t : Bool) → o.ring ≡ 0 → Decides t (basket_surplus m X 1 Y b <ℤ pos 0) → Decides t (BasketLoses m X Y b)
-    unlooped-sunk t h d = Decides-like t (λ l. inl (sym ring-is ∙ h, l)) (⊎_elim (λ w. w.1) (λ w. absurd (w.0 (sym ring-is ∙ h)))) d
+    pub unlooped_sunk : (t : Bool) → o.ring ≡ 0 → Decides t (basket_surplus m X 1 Y b <ℤ pos 0) → Decides t (BasketLoses m X Y b)
+    unlooped_sunk t h d = Decides-like t (λ l. inl (sym ring_is ∙ h, l)) (⊎_elim (λ w. w.1) (λ w. absurd (w.0 (sym ring_is ∙ h)))) d
 
     pub not_first : (c : ℕ) → (o.ring ≡ 0 → ⊥) → FirstOf m b c → (c ≡ b → ⊥) → Decides false (BasketLoses m X Y b)
-    not_first c h f n = refutes (⊎_elim (λ w. h (ring-is ∙ w.0)) (λ w. n (first_one m b c b f w.1)))
+    not_first c h f n = refutes (⊎_elim (λ w. h (ring_is ∙ w.0)) (λ w. n (first_one m b c b f w.1)))
 
-    pub looped-sunk : (c : ℕ) (t : Bool) → (o.ring ≡ 0 → ⊥) → FirstOf m b c → c ≡ b → Decides t (loop_surplus m X 1 Y o.ring <ℤ pos 0) → Decides t (BasketLoses m X Y b)
-    looped-sunk c t h f s d = Decides-like t
-        (λ l. inr ((λ q. h (ring-is ∙ q)), subst (FirstOf m b) s f, l))
-        (⊎_elim (λ w. absurd (h (ring-is ∙ w.0))) (λ w. w.2))
-        (subst (λ r. Decides t (loop_surplus m X 1 Y r <ℤ pos 0)) ring-is d)
+    pub looped_sunk : (c : ℕ) (t : Bool) → (o.ring ≡ 0 → ⊥) → FirstOf m b c → c ≡ b → Decides t (loop_surplus m X 1 Y o.ring <ℤ pos 0) → Decides t (BasketLoses m X Y b)
+    looped_sunk c t h f s d = Decides-like t
+        (λ l. inr ((λ q. h (ring_is ∙ q)), subst (FirstOf m b) s f, l))
+        (⊎_elim (λ w. absurd (h (ring_is ∙ w.0))) (λ w. w.2))
+        (subst (λ r. Decides t (loop_surplus m X 1 Y r <ℤ pos 0)) ring_is d)

@@ -9,7 +9,7 @@ use Rattle.bound.specs.Steps.{refuse}
 use Rattle.bound.specs.Checks.{allowed, node_at, OverTree}
 use Rattle.bound.specs.Layers.{holding}
 use Rattle.bound.specs.Paths.{held_of, count_of, below_of, Free, SamePath}
-use Rattle.bound.proofs.Reading.{node_err, node_leaf, node_barred, node_deep, node-off, node-on, node-both}
+use Rattle.bound.proofs.Reading.{node_err, node_leaf, node_barred, node_deep, node_off, node_on, node_both}
 use Rattle.bound.proofs.Descent.{allowed_free}
 use Rattle.bound.proofs.Paths.{held_count, deeper, back_up}
 use Rattle.bound.proofs.Sound.{found_known}
@@ -85,14 +85,14 @@ node-returns-in_err-off-in-Branch g t c =
     let may : allowed here v ≡ true = sym c.may_split.ensures ∙ c.if-not-may_split.false in
     let more : 64 - count_of f ≡ suc d = omega (arith, c.requires.0, c.if-depth-eq-DEEPEST.false, f.few) in
     let off = c.in_err-off-in-Branch.ensures in
-    let p = err_from_is_err_and c.from_residual-in_err-off.result c.from_residual-in_err-off.ensures.1 in
+    let p = err_from_is_err_and c.from_residual-in_err-off-in-Branch.result c.from_residual-in_err-off-in-Branch.ensures.1 in
     let first : node_at d (holding here v (pos 0)) file q ≡ Err c.in_err-off-in-Branch.field-0.0 =
     (λ i. node_at d (holding here v (pos 0)) (sym told.file i) q) ∙ off.gives in
     record {
       file = off.file ∙ told.file;
       over = rw p.1 tt;
       path = rw p.1 tt;
-      gives = rw (p.1, p.2) (node-off here file at (64 - count_of f) d v q more may found _ first);
+      gives = rw (p.1, p.2) (node_off here file at (64 - count_of f) d v q more may found _ first);
     }
 
 pub node-side-requires-in-Branch : goal.node-side-requires-in-Branch
@@ -139,12 +139,12 @@ node-returns-in_err-on-in-Branch g t c =
     let moved : node_at d (holding here v (pos 1)) file mid ≡ node_at (63 - count_of f') (holding (fixed (g.P.Programme.table (below_of f')) (held_of f')) v (pos 1)) (file_of c.side.new.reader) mid =
     λ i. node_at (63 - sym kept.1 i) (holding (fixed (g.P.Programme.table (sym kept.2 i)) (sym kept.0 i)) v (pos 1)) (sym (off.file ∙ told.file) i) mid in
     let on = c.in_err-on-in-Branch.ensures in
-    let p = err_from_is_err_and c.from_residual-in_err-on.result c.from_residual-in_err-on.ensures.1 in
+    let p = err_from_is_err_and c.from_residual-in_err-on-in-Branch.result c.from_residual-in_err-on-in-Branch.ensures.1 in
     record {
       file = on.file ∙ off.file ∙ told.file;
       over = rw p.1 tt;
       path = rw p.1 tt;
-      gives = rw (p.1, p.2) (node-on here file at (64 - count_of f) d v q more may found _ mid _ first (moved ∙ on.gives));
+      gives = rw (p.1, p.2) (node_on here file at (64 - count_of f) d v q more may found _ mid _ first (moved ∙ on.gives));
     }
 
 pub node-returns-in_ok-on-in-Branch : goal.node-returns-in_ok-on-in-Branch
@@ -176,7 +176,7 @@ node-returns-in_ok-on-in-Branch g t c =
       file = on.file ∙ off.file ∙ told.file;
       over = on.over;
       path = (kept'.0 ∙ kept.0, kept'.1 ∙ kept.1, kept'.2 ∙ kept.2);
-      gives = node-both here file at (64 - count_of f) d v q more may found _ mid _ _ first (moved ∙ on.gives)
+      gives = node_both here file at (64 - count_of f) d v q more may found _ mid _ _ first (moved ∙ on.gives)
           ∙ ap (λ b. Ok (b, place_of c.side-in-Branch.new.reader)) (sym greater);
     }
 

@@ -6,7 +6,7 @@ use Rattle.bound.specs.Sheets.{sheeted}
 use Rattle.bound.specs.Paths.{count_of}
 use Rattle.bound.specs.Checks.{finished, OverTree}
 use Rattle.bound.proofs.Paths.{held_count, started}
-use Rattle.bound.proofs.Sound.{refused-checked, finished-checked}
+use Rattle.bound.proofs.Sound.{refused_checked, finished_checked}
 use Rattle.bound.proofs.checks.walk.Goals as goal
 
 pub node-requires : goal.node-requires
@@ -26,7 +26,7 @@ returns-in_err-bound g c =
     let told = c.in_err-bound.ensures in
     let start = started (λ s. sheeted (table s.below.now) s.lines) t file c.of-sheet.result c.over-fixing.result c.in_ok-reader.reader c.of-sheet.ensures.same over.below over.held opened.1 opened.3 in
     let p = err_from_is_err_and c.from_residual-in_err-bound.result c.from_residual-in_err-bound.ensures.1 in
-    rw (p.1, p.2) (sym (refused-checked t file opened.0 _ (start ∙ told.gives)))
+    rw (p.1, p.2) (sym (refused_checked t file opened.0 _ (start ∙ told.gives)))
 
 pub returns : goal.returns
 returns g c =
@@ -39,4 +39,4 @@ returns g c =
     let told = c.in_ok-bound.ensures in
     let start = started (λ s. sheeted (table s.below.now) s.lines) t file c.of-sheet.result c.over-fixing.result c.in_ok-reader.reader c.of-sheet.ensures.same over.below over.held opened.1 opened.3 in
     c.finish.ensures ∙ (λ i. finished ((told.file ∙ opened.1) i) (to_z-of_z w64 b (search rules) i) (place_of c.node.new.reader))
-    ∙ sym (finished-checked t file opened.0 b _ (start ∙ told.gives))
+    ∙ sym (finished_checked t file opened.0 b _ (start ∙ told.gives))

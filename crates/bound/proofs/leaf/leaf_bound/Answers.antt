@@ -2,7 +2,7 @@ use Rattle.std.proofs.Common.{◌<◌, sym, ◌∙◌, w64, SFits, rules}
 use Rattle.std.proofs.lemmas.Int.{to_z-of_z}
 use Rattle.bound.specs.Leaves.{parts}
 use Rattle.bound.proofs.Steps.{went}
-use Rattle.bound.proofs.Parts.{part_refused, sum-refused, parts_more}
+use Rattle.bound.proofs.Parts.{part_refused, sum_refused, parts_more}
 use Rattle.bound.proofs.leaf.leaf_bound.Goals as goal
 
 pub returns-in_err-part : goal.returns-in_err-part
@@ -26,7 +26,7 @@ returns-in_err-bound-2 g c =
     let within : c.loop-v.v < t.variables = rw c.variable_count-v-end.ensures at c.loop-v-test.true in
     let refused = simp to_z-of_z at c.in_err-bound-2.ensures in
     rw c.from_residual-in_err-bound-2.ensures
-    (sum-refused t ws t.variables c.in_ok-bound.bound c.loop-v.v _ inv within c.in_ok-part.ensures refused
+    (sum_refused t ws t.variables c.in_ok-bound.bound c.loop-v.v _ inv within c.in_ok-part.ensures refused
     ∙ sym (went _ (parts t ws t.variables 0) c.in_ok-bound.ensures))
 
 pub loop-v-preserved : goal.loop-v-preserved

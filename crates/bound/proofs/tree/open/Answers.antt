@@ -71,9 +71,9 @@ returns-in_err-judged-in-Row g c =
     let few : count ≤ length c.loop-variable.weights = omega (arith, inv.2, inv.3, inv.4, (g.P.Programme.lawful program).few_rows) in
     let size : count ≡ length ws = sym (length-take-le count c.loop-variable.weights few) in
     let step = ap (λ f. step_at f at) (sym inv.0) ∙ told.gives ∙ ap (λ s. Ok (s, q)) c.in-Row.is in
-    let is : judged (length ws) (next_row ws) t.rows c.in-Row.row c.in-Row.weight at ≡ Err c.in_err-judged.field-0.0 =
-    sym (sym c.in_err-judged.was ∙ c.judge.ensures ∙ (λ i. judged (size i) (sym inv.5 i) (c.rows.ensures i) (to_z-of_z w64 c.in-Row.row row i) (to_z-of_z w64 c.in-Row.weight weight i) (c.place-place.ensures i))) in
-    let p = err_from_is_err_and c.from_residual-in_err-judged.result c.from_residual-in_err-judged.ensures.1 in
+    let is : judged (length ws) (next_row ws) t.rows c.in-Row.row c.in-Row.weight at ≡ Err c.in_err-judged-in-Row.field-0.0 =
+    sym (sym c.in_err-judged-in-Row.was ∙ c.judge.ensures ∙ (λ i. judged (size i) (sym inv.5 i) (c.rows.ensures i) (to_z-of_z w64 c.in-Row.row row i) (to_z-of_z w64 c.in-Row.weight weight i) (c.place-place.ensures i))) in
+    let p = err_from_is_err_and c.from_residual-in_err-judged-in-Row.result c.from_residual-in_err-judged-in-Row.ensures.1 in
     record {
       file = told.file ∙ inv.0;
       over = rw p.1 tt;

@@ -16,13 +16,13 @@ loop-given-preserved c =
     let r = c.loop-given.reader in
     let inv = c.loop-given.invariant in
     let xs = inv.4.0 in
-    let told = c.in-ok-given.ensures in
+    let told = c.in_ok-given.ensures in
     let given = c.in-Some.given in
     let n : Next (kinds_of r) (file_of r) (place_of r) (Ok (Some given)) (place_of c.next.new.self) =
     subst (λ (o : Option Record). Next (kinds_of r) (file_of r) (place_of r) (Ok o) (place_of c.next.new.self)) c.in-Some.is told.reads in
     let here = ap (λ (ks : List Kind). read ks (drop (place_of r) (file_of r))) (sym inv.1) ∙ n.0 in
     let is : c.of-mark.result ≡ mark_of (content given) = c.of-mark.ensures in
-    let fine : fault_of m c.loop-given.last (mark_of (content given)) ≡ None = ap (fault_of m c.loop-given.last) (sym is) ∙ (sym c.fault.ensures ∙ c.in-default-fault.is) in
+    let fine : fault_of m c.loop-given.last (mark_of (content given)) ≡ None = ap (fault_of m c.loop-given.last) (sym is) ∙ (sym c.fault.ensures ∙ c.in_default-fault.is) in
     let more = run_more m (file_of r) 0 None xs (place_of r) c.loop-given.last (content given) inv.4.1 here fine in
     let run : Run m (file_of c.next.new.self) 0 None (xs ++ c.of-mark.result ∷ []) (place_of c.next.new.self) (Some c.of-mark.result) = rw (told.file, n.2, is) more in (
       told.file ∙ inv.0,
@@ -37,9 +37,9 @@ returns c =
     let m = closed_of c.args.market.now in
     let r = c.loop-given.reader in
     let inv = c.loop-given.invariant in
-    let told = c.in-ok-given.ensures in
+    let told = c.in_ok-given.ensures in
     let n : Next (kinds_of r) (file_of r) (place_of r) (Ok None) (place_of c.next.new.self) =
-    subst (λ (o : Option Record). Next (kinds_of r) (file_of r) (place_of r) (Ok o) (place_of c.next.new.self)) c.in-default.is told.reads in
+    subst (λ (o : Option Record). Next (kinds_of r) (file_of r) (place_of r) (Ok o) (place_of c.next.new.self)) c.in_default.is told.reads in
     let run : Run m (file_of c.args.reader.now) 0 None inv.4.0 (place_of r) c.loop-given.last =
     subst (λ (f : List ℕ). Run m f 0 None inv.4.0 (place_of r) c.loop-given.last) inv.0 inv.4.1 in
     let same : length (file_of r) ≡ length (file_of c.args.reader.now) = ap length inv.0 in

@@ -16,30 +16,30 @@ limits m good file was then t = reads_limits m good file _ (take 448 then) t.rea
 pub judge-requires : goal.judge-requires
 judge-requires c =
     let m = c.args.market.now in
-    filled (closed_of m) _ (limits (closed_of m) (closed_lawful m) _ _ _ (through _ _ _ _ c.in-ok-read-clearing.ensures))
+    filled (closed_of m) _ (limits (closed_of m) (closed_lawful m) _ _ _ (through _ _ _ _ c.in_ok-read_clearing.ensures))
 
 pub returns-in-Err : goal.returns-in-Err
 returns-in-Err c =
-    let t = through _ _ _ _ c.in-ok-read-clearing.ensures in
+    let t = through _ _ _ _ c.in_ok-read_clearing.ensures in
     record { judged = judged _ _ _ _ _ t (inr (t.reads, record { rule = c.in-Err.breach.rule; named = refl; first = c.in-Err.ensures })); size = tt }
 
 pub welfare-requires : goal.welfare-requires
 welfare-requires c =
     let m = c.args.market.now in
-    filled (closed_of m) _ (limits (closed_of m) (closed_lawful m) _ _ _ (through _ _ _ _ c.in-ok-read-clearing.ensures))
+    filled (closed_of m) _ (limits (closed_of m) (closed_lawful m) _ _ _ (through _ _ _ _ c.in_ok-read_clearing.ensures))
 
 pub cost-requires : goal.cost-requires
 cost-requires c =
     let m = c.args.market.now in
-    filled (closed_of m) _ (limits (closed_of m) (closed_lawful m) _ _ _ (through _ _ _ _ c.in-ok-read-clearing.ensures))
+    filled (closed_of m) _ (limits (closed_of m) (closed_lawful m) _ _ _ (through _ _ _ _ c.in_ok-read_clearing.ensures))
 
 pub returns : goal.returns
 returns c =
     let m = closed_of c.args.market.now in
     let good = closed_lawful c.args.market.now in
-    let t = through _ _ _ _ c.in-ok-read-clearing.ensures in
+    let t = through _ _ _ _ c.in_ok-read_clearing.ensures in
     let k = limits m good _ _ _ t in
-    let ok = c.in-default.ensures in
+    let ok = c.in_default.ensures in
     let w : to_z w64 (of_z w64 c.welfare.result) ≡ c.welfare.result = search rules in
     let z : to_z w64 (of_z w64 c.cost.result) ≡ c.cost.result = search rules in
     record {

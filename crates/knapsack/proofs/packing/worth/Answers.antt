@@ -5,20 +5,20 @@ use Rattle.knapsack.specs.Packings.{part}
 use Rattle.knapsack.proofs.Packed.{sum_four, added}
 use Rattle.knapsack.proofs.packing.worth.Goals as goal
 
-pub overflow-add-result-2 : goal.overflow-add-result-2
-overflow-add-result-2 c = omega (arith, ints, c.value-at.ensures.small, c.value-at-2.ensures.small, c.value-at-3.ensures.small)
+pub overflow_add-result-2 : goal.overflow_add-result-2
+overflow_add-result-2 c = omega (arith, ints, c.value_at.ensures.small, c.value_at-2.ensures.small, c.value_at-3.ensures.small)
 
-pub overflow-add-result-3 : goal.overflow-add-result-3
-overflow-add-result-3 c = omega (arith, ints, c.value-at.ensures.small, c.value-at-2.ensures.small, c.value-at-3.ensures.small, c.value-at-4.ensures.small)
+pub overflow_add-result-3 : goal.overflow_add-result-3
+overflow_add-result-3 c = omega (arith, ints, c.value_at.ensures.small, c.value_at-2.ensures.small, c.value_at-3.ensures.small, c.value_at-4.ensures.small)
 
 pub returns : goal.returns
 returns c =
-    let f1 : SFits w64 c.value-at.result = search rules in
-    let f2 : SFits w64 c.value-at-2.result = search rules in
-    let f3 : SFits w64 c.value-at-3.result = search rules in
-    let f4 : SFits w64 c.value-at-4.result = search rules in
-    let all = added c.value-at.result c.value-at-2.result c.value-at-3.result c.value-at-4.result c.value-at.ensures.small c.value-at-2.ensures.small c.value-at-3.ensures.small c.value-at-4.ensures.small in
+    let f1 : SFits w64 c.value_at.result = search rules in
+    let f2 : SFits w64 c.value_at-2.result = search rules in
+    let f3 : SFits w64 c.value_at-3.result = search rules in
+    let f4 : SFits w64 c.value_at-4.result = search rules in
+    let all = added c.value_at.result c.value_at-2.result c.value_at-3.result c.value_at-4.result c.value_at.ensures.small c.value_at-2.ensures.small c.value_at-3.ensures.small c.value_at-4.ensures.small in
     let two = all.two in
     let three = all.three in
     let four = all.four in
-    simp to_z-of_z (simp (c.value-at.ensures.is, c.value-at-2.ensures.is, c.value-at-3.ensures.is, c.value-at-4.ensures.is) (sym (sum_four (λ v. (item_at v).value *ℤ part c.args.taken.now v))))
+    simp to_z-of_z (simp (c.value_at.ensures.is, c.value_at-2.ensures.is, c.value_at-3.ensures.is, c.value_at-4.ensures.is) (sym (sum_four (λ v. (item_at v).value *ℤ part c.args.taken.now v))))

@@ -10,6 +10,6 @@ returns-then-value-eq0 c = text_absent c.args.bit c.args.value c.ranges.value.sf
 pub returns : goal.returns
 returns c =
     let value = to_z-of_z w64 c.args.value c.ranges.value in
-    let shown = c.in-ok-shown.ensures.ok ∙ ap (field_text c.args.bit) value in
-    c.in-ok-push-str.ensures.bytes
-    ∙ ap (λ l. string_bytes c.args.text.now ++ l) (c.as-str.ensures.value ∙ shown ∙ sym (text_stands c.args.bit c.args.value c.if-value-eq0.false))
+    let shown = c.in_ok-shown.ensures.ok ∙ ap (field_text c.args.bit) value in
+    c.in_ok-push_str.ensures.bytes
+    ∙ ap (λ l. string_bytes c.args.text.now ++ l) (c.as_str.ensures.value ∙ shown ∙ sym (text_stands c.args.bit c.args.value c.if-value-eq0.false))

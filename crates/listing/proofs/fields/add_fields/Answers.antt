@@ -13,7 +13,7 @@ loop-bit-preserved c =
     let bit = c.loop-bit.bit in
     let long = fields_length r.kind 16 r.map r.bytes.now in
     let value = to_z-of_z w64 c.field.result (search rules) ∙ c.field.ensures in
-    let text = c.in-ok-add-field.ensures ∙ ap (λ z. string_bytes c.loop-bit.text ++ standing_text bit z) value in
+    let text = c.in_ok-add_field.ensures ∙ ap (λ z. string_bytes c.loop-bit.text ++ standing_text bit z) value in
     ap (λ l. l ++ fields_text (bit + 1) (drop (bit + 1) zs)) text ∙ fields_on zs bit (string_bytes c.loop-bit.text) _ (omega (arith, long, c.loop-bit-test.true)) c.loop-bit.invariant
 
 pub returns : goal.returns

@@ -4,6 +4,6 @@ use Rattle.listing.proofs.lines.add_fault.Goals as goal
 
 pub returns : goal.returns
 returns c =
-    c.in-ok-push-str.ensures.bytes
+    c.in_ok-push_str.ensures.bytes
     ∙ ap (λ l. string_bytes c.args.text.now ++ l)
-    (c.as-str.ensures.value ∙ c.in-ok-line.ensures ∙ ap (λ n. fault_text n c.args.refusal.place) c.number.ensures)
+    (c.as_str.ensures.value ∙ c.in_ok-line.ensures ∙ ap (λ n. fault_text n c.args.refusal.place) c.number.ensures)

@@ -9,6 +9,6 @@ returns c =
     let before = string_bytes c.args.text.now in
     let head = head_text r.place r.kind in
     let fields = fields_text 0 (content r).fields in
-    let first = c.in-ok-push-str.ensures.bytes ∙ ap (λ l. before ++ l) (c.as-str.ensures.value ∙ c.in-ok-head.ensures) in
-    let second = c.in-ok-add-fields.ensures ∙ ap (λ l. l ++ fields) first in
-    c.in-ok-push-str-2.ensures.bytes ∙ ap (λ l. l ++ codes "\n") second ∙ append_assoc (before ++ head) fields (codes "\n") ∙ append_assoc before head (fields ++ codes "\n")
+    let first = c.in_ok-push_str.ensures.bytes ∙ ap (λ l. before ++ l) (c.as_str.ensures.value ∙ c.in_ok-head.ensures) in
+    let second = c.in_ok-add_fields.ensures ∙ ap (λ l. l ++ fields) first in
+    c.in_ok-push_str-2.ensures.bytes ∙ ap (λ l. l ++ codes "\n") second ∙ append_assoc (before ++ head) fields (codes "\n") ∙ append_assoc before head (fields ++ codes "\n")

@@ -10,7 +10,7 @@ use Rattle.listing.proofs.lists.listing.Goals as goal
 pub returns-in-Err : goal.returns-in-Err
 returns-in-Err c =
     let told = c.in-Err.ensures in
-    let text = c.in-ok-add-fault.ensures ∙ (λ i. c.new-text.ensures.bytes i ++ fault_text (code (told.1 i)).number (told.2 i)) in
+    let text = c.in_ok-add_fault-in-Err.ensures ∙ (λ i. c.new-text.ensures.bytes i ++ fault_text (code (told.1 i)).number (told.2 i)) in
     subst (Lists c.args.kinds.now c.args.file.now) (sym text) (too_long told.0)
 
 pub loop-next-init : goal.loop-next-init
@@ -34,7 +34,7 @@ loop-next-preserved c =
     let q = place_of c.next.new.self in
     let found = subst (λ o. Next (kinds_of c.loop-next.reader) (file_of c.loop-next.reader) p (Ok o) q) c.in-Some.is told.reads in
     let reads = sym (λ i. read (inv.1 i) (drop p (inv.0 i))) ∙ found.0 in
-    let text = c.in-ok-add-line.ensures ∙ ap (λ k. string_bytes c.loop-next.text ++ line_text k (content r)) found.1 in (
+    let text = c.in_ok-add_line.ensures ∙ ap (λ k. string_bytes c.loop-next.text ++ line_text k (content r)) found.1 in (
       told.file ∙ inv.0,
       told.kinds ∙ inv.1,
       omega (arith, found.2, inv.2),
@@ -42,13 +42,13 @@ loop-next-preserved c =
       listed_on c.args.kinds.now c.args.file.now p q c.loop-next.count (content r) (string_bytes c.loop-next.text) _ reads found.2 text inv.4,
     )
 
-pub returns-in-default : goal.returns-in-default
-returns-in-default c =
+pub returns-in_default : goal.returns-in_default
+returns-in_default c =
     let inv = c.loop-next.invariant in
     let p = c.loop-next.reader.place in
-    let found = subst (λ o. Next (kinds_of c.loop-next.reader) (file_of c.loop-next.reader) p (Ok o) (place_of c.next.new.self)) c.in-default.is c.in-Ok-next.ensures.reads in
+    let found = subst (λ o. Next (kinds_of c.loop-next.reader) (file_of c.loop-next.reader) p (Ok o) (place_of c.next.new.self)) c.in_default.is c.in-Ok-next.ensures.reads in
     let end : length c.args.file.now ≤ p = omega (arith, found.0, ap length inv.0) in
-    whole c.in-Ok.ensures.0 (subst (Listed c.args.kinds.now c.args.file.now 0 0) (sym c.in-ok-add-count.ensures) (inv.4 _ (ended end)))
+    whole c.in-Ok.ensures.0 (subst (Listed c.args.kinds.now c.args.file.now 0 0) (sym c.in_ok-add_count.ensures) (inv.4 _ (ended end)))
 
 pub returns-in-Err-next : goal.returns-in-Err-next
 returns-in-Err-next c =
@@ -58,5 +58,5 @@ returns-in-Err-next c =
     let p = c.loop-next.reader.place in
     let left : p < length c.args.file.now = omega (arith, told.reads.0, ap length inv.0) in
     let reads = sym (λ i. read (inv.1 i) (drop p (inv.0 i))) ∙ told.reads.1 in
-    let text = c.in-ok-add-fault-2.ensures ∙ ap (λ k. string_bytes c.loop-next.text ++ fault_text (code e.fault).number k) told.reads.2 in
+    let text = c.in_ok-add_fault-in-Err-next.ensures ∙ ap (λ k. string_bytes c.loop-next.text ++ fault_text (code e.fault).number k) told.reads.2 in
     whole c.in-Ok.ensures.0 (subst (Listed c.args.kinds.now c.args.file.now 0 0) (sym text) (inv.4 _ (refused left reads)))

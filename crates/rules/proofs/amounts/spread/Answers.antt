@@ -3,12 +3,12 @@ use Rattle.std.proofs.lemmas.Int.{ints}
 use Rattle.numbers.proofs.Products.{Multiplied, multiplied}
 use Rattle.rules.proofs.amounts.spread.Goals as goal
 
-once : (c : goal.Start) → Multiplied (to_z w64 c.args.quantity) (to_z w64 (of_z w64 (to_z w64 (of_z w64 (to_z w32 (of_z w32 c.args.price))) -ℤ to_z w64 (of_z w64 (to_z w32 (of_z w32 c.args.own_val))))))
-    (pos c.args.quantity) (c.args.price -ℤ pos 1 *ℤ c.args.own_val) (999 * 199998)
+once : (c : goal.Start) → Multiplied (to_z w64 c.args.quantity) (to_z w64 (of_z w64 (to_z w64 (of_z w64 (to_z w32 (of_z w32 c.args.price))) -ℤ to_z w64 (of_z w64 (to_z w32 (of_z w32 c.args.own))))))
+    (pos c.args.quantity) (c.args.price -ℤ pos 1 *ℤ c.args.own) (999 * 199998)
 once c = multiplied _ _ _ _ 999 199998 (omega (arith, ints)) (omega (arith, ints)) (omega (arith, ints), omega (arith, ints)) (omega (arith, ints), omega (arith, ints)) (omega arith)
 
-pub overflow-mul-result : goal.overflow-mul-result
-overflow-mul-result c = (once c).ranges
+pub overflow_mul-result : goal.overflow_mul-result
+overflow_mul-result c = (once c).fits
 
 pub returns : goal.returns
 returns c = let p = once c in (p.is, (omega (arith, ints), omega (arith, ints)))

@@ -11,11 +11,11 @@ twice : (c : goal.Start) → Multiplied
     (c.args.price *ℤ pos c.args.quantity) c.args.parts (99999 * c.args.quantity * 10000)
 twice c = multiplied _ _ _ _ (99999 * c.args.quantity) 10000 (once c).is (omega (arith, ints)) (once c).small c.requires.2 (omega arith)
 
-pub overflow-mul-result : goal.overflow-mul-result
-overflow-mul-result c = (once c).ranges
+pub overflow_mul-result : goal.overflow_mul-result
+overflow_mul-result c = (once c).fits
 
-pub overflow-mul-result-2 : goal.overflow-mul-result-2
-overflow-mul-result-2 c = (twice c).ranges
+pub overflow_mul-result-2 : goal.overflow_mul-result-2
+overflow_mul-result-2 c = (twice c).fits
 
 pub returns : goal.returns
 returns c = let p = twice c in (p.is, (omega (arith, ints), omega (arith, ints)))

@@ -10,4 +10,4 @@ loop-i-init c = summed_none _ _
 
 pub loop-i-preserved : goal.loop-i-preserved
 loop-i-preserved c = summed_more _ _ _ _ _ (omega arith) (omega arith) c.loop-i.invariant
-    (family_term (closed_of c.args.m.now) (parts_in c.args.s.now) _ _ _ _ _ c.buy.ensures.is c.parts-of.ensures.is c.parts-of.ensures.small c.family-part-sum.ensures)
+    (family_term (closed_of c.args.m.now) (parts_in c.args.s.now) _ _ _ _ _ c.buy.ensures.is c.parts_of.ensures.is c.parts_of.ensures.small c.family_part-sum.ensures)

@@ -7,4 +7,4 @@ pub returns-then-extra-b : goal.returns-then-extra-b
 returns-then-extra-b c = other_basket (closed_of c.args.m.now) (parts_in c.args.s.now) (prices_in c.args.s.now) _ _ _ c.extra.ensures.is c.if-extra-b.true
 
 pub returns : goal.returns
-returns c = own_basket (closed_of c.args.m.now) (parts_in c.args.s.now) (prices_in c.args.s.now) _ _ _ _ c.extra.ensures.is c.if-extra-b.false c.extra-surplus.ensures
+returns c = own_basket (closed_of c.args.m.now) (parts_in c.args.s.now) (prices_in c.args.s.now) _ _ _ _ c.extra.ensures.is c.if-extra-b.false c.extra_surplus.ensures

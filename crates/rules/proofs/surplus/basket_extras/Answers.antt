@@ -6,4 +6,4 @@ pub loop-k-init : goal.loop-k-init
 loop-k-init c = summed_none _ _
 
 pub loop-k-preserved : goal.loop-k-preserved
-loop-k-preserved c = summed_more _ _ _ _ _ (omega arith) (omega arith) c.loop-k.invariant c.basket-extra-sum.ensures
+loop-k-preserved c = summed_more _ _ _ _ _ (omega arith) (omega arith) c.loop-k.invariant c.basket_extra-sum.ensures

@@ -6,4 +6,4 @@ use Rattle.rules.proofs.surplus.basket_surplus.Goals as goal
 
 pub returns : goal.returns
 returns c = basket_surplus_term (closed_of c.args.m.now) (parts_in c.args.s.now) (prices_in c.args.s.now) _ _ _
-    (closed_lawful c.args.m.now).few_extras c.parent-surplus.ensures c.basket-extras.ensures
+    (closed_lawful c.args.m.now).few_extras c.parent_surplus.ensures c.basket_extras.ensures

@@ -4,4 +4,4 @@ use Rattle.rules.specs.Prices.{gain}
 use Rattle.rules.proofs.surplus.gains.Given as goal
 
 abbrev pub invariant-loop-p : goal.invariant-loop-p
-invariant-loop-p l = Summed (gain 1 (prices_in l.s) l.window l.quantities l.own_val) 199798002 l.p l.sum
+invariant-loop-p l = Summed (gain 1 (prices_in l.s) l.window l.quantities l.own) 199798002 l.p l.sum

@@ -7,4 +7,4 @@ pub returns-then-basket-ring : goal.returns-then-basket-ring
 returns-then-basket-ring c = other_loop (closed_of c.args.m.now) (parts_in c.args.s.now) (prices_in c.args.s.now) _ _ _ c.basket.ensures.is c.if-basket-ring.true
 
 pub returns : goal.returns
-returns c = own_loop (closed_of c.args.m.now) (parts_in c.args.s.now) (prices_in c.args.s.now) _ _ _ _ c.basket.ensures.is c.if-basket-ring.false c.basket-surplus.ensures
+returns c = own_loop (closed_of c.args.m.now) (parts_in c.args.s.now) (prices_in c.args.s.now) _ _ _ _ c.basket.ensures.is c.if-basket-ring.false c.basket_surplus.ensures

@@ -6,4 +6,4 @@ pub loop-c-init : goal.loop-c-init
 loop-c-init c = summed_none _ _
 
 pub loop-c-preserved : goal.loop-c-preserved
-loop-c-preserved c = summed_more _ _ _ _ _ (omega arith) (omega arith) c.loop-c.invariant c.loop-basket-sum.ensures
+loop-c-preserved c = summed_more _ _ _ _ _ (omega arith) (omega arith) c.loop-c.invariant c.loop_basket-sum.ensures

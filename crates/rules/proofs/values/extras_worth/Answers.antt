@@ -10,4 +10,4 @@ loop-k-init c = summed_none _ _
 
 pub loop-k-preserved : goal.loop-k-preserved
 loop-k-preserved c = summed_more _ _ _ _ _ (omega arith) (omega arith) c.loop-k.invariant
-    (extra_worth_term (closed_of c.args.m.now) (parts_in c.args.s.now) (prices_in c.args.s.now) _ _ _ _ c.extra-order.ensures.is c.extra-order.ensures.small.price c.parts-of.ensures.is c.parts-of.ensures.small c.sell-worth-sum.ensures)
+    (extra_worth_term (closed_of c.args.m.now) (parts_in c.args.s.now) (prices_in c.args.s.now) _ _ _ _ c.extra-order.ensures.is c.extra-order.ensures.small.price c.parts_of.ensures.is c.parts_of.ensures.small c.sell_worth-sum.ensures)

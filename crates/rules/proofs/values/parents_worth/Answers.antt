@@ -10,4 +10,4 @@ loop-b-init c = summed_none _ _
 
 pub loop-b-preserved : goal.loop-b-preserved
 loop-b-preserved c = summed_more _ _ _ _ _ (omega arith) (omega arith) c.loop-b.invariant
-    (parent_worth_term (closed_of c.args.m.now) (parts_in c.args.s.now) (prices_in c.args.s.now) _ _ _ _ c.basket-order.ensures.is c.basket-order.ensures.small.price c.parts-of.ensures.is c.parts-of.ensures.small c.sell-worth-sum.ensures)
+    (parent_worth_term (closed_of c.args.m.now) (parts_in c.args.s.now) (prices_in c.args.s.now) _ _ _ _ c.basket-order.ensures.is c.basket-order.ensures.small.price c.parts_of.ensures.is c.parts_of.ensures.small c.sell_worth-sum.ensures)

@@ -8,12 +8,12 @@ use Rattle.rules.proofs.values.payment.Goals as goal
 pub loop-p-init : goal.loop-p-init
 loop-p-init c = summed_none _ _
 
-pub overflow-add-sum : goal.overflow-add-sum
-overflow-add-sum c = sum_fits _ _ _ _ c.loop-p.invariant.small (within_more _ 999 999990000 _ (c.requires.1.1.0 _ (omega arith)) c.worth-sum.ensures.1) (omega arith)
+pub overflow_add-sum : goal.overflow_add-sum
+overflow_add-sum c = sum_fits _ _ _ _ c.loop-p.invariant.small (within_more _ 999 999990000 _ (c.requires.1.1.0 _ (omega arith)) c.worth-sum.ensures.1) (omega arith)
 
 pub loop-p-preserved : goal.loop-p-preserved
 loop-p-preserved c = summed_more _ _ _ _ _ (omega arith) (omega arith) c.loop-p.invariant
-    (payment_term (prices_in c.args.s.now) _ _ _ _ _ _ c.price-of.ensures.is c.price-of.ensures.small (c.requires.1.1.0 _ (omega arith)) c.worth-sum.ensures)
+    (payment_term (prices_in c.args.s.now) _ _ _ _ _ _ c.price_of.ensures.is c.price_of.ensures.small (c.requires.1.1.0 _ (omega arith)) c.worth-sum.ensures)
 
 pub returns : goal.returns
 returns c = payment_summed (prices_in c.args.s.now) _ _ _ _ _ _ c.requires.1.1.1 (omega arith) c.loop-p.invariant

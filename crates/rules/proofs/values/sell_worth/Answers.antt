@@ -7,8 +7,8 @@ use Rattle.rules.proofs.values.sell_worth.Goals as goal
 pub loop-p-init : goal.loop-p-init
 loop-p-init c = summed_none _ _
 
-pub overflow-add-sum : goal.overflow-add-sum
-overflow-add-sum c = sum_fits _ _ _ _ c.loop-p.invariant.small (within_more _ 999 999990000 _ (c.requires.0 _ (omega arith)) c.worth-sum.ensures.1) (omega arith)
+pub overflow_add-sum : goal.overflow_add-sum
+overflow_add-sum c = sum_fits _ _ _ _ c.loop-p.invariant.small (within_more _ 999 999990000 _ (c.requires.0 _ (omega arith)) c.worth-sum.ensures.1) (omega arith)
 
 pub loop-p-preserved : goal.loop-p-preserved
 loop-p-preserved c = summed_more _ _ _ _ _ (omega arith) (omega arith) c.loop-p.invariant (product_term (cast c.args.price) c.args.quantities (cast c.args.parts) c.loop-p.p _ (c.requires.0 c.loop-p.p (omega arith)) c.worth-sum.ensures)

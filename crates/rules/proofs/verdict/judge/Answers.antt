@@ -8,10 +8,10 @@ pub loop-n-init : goal.loop-n-init
 loop-n-init c = clear_none (closed_of c.args.m.now) (parts_in c.args.s.now) (prices_in c.args.s.now)
 
 pub returns-in-Some : goal.returns-in-Some
-returns-in-Some c = refused_at (closed_of c.args.m.now) (parts_in c.args.s.now) (prices_in c.args.s.now) _ _ _ c.in-turn-rule.ensures c.loop-n.invariant c.in-Some.ensures
+returns-in-Some c = refused_at (closed_of c.args.m.now) (parts_in c.args.s.now) (prices_in c.args.s.now) _ _ _ c.in_turn-rule.ensures c.loop-n.invariant c.in-Some.ensures
 
 pub loop-n-preserved : goal.loop-n-preserved
-loop-n-preserved c = clear_next (closed_of c.args.m.now) (parts_in c.args.s.now) (prices_in c.args.s.now) _ _ c.in-turn-rule.ensures c.loop-n.invariant c.in-default.ensures
+loop-n-preserved c = clear_next (closed_of c.args.m.now) (parts_in c.args.s.now) (prices_in c.args.s.now) _ _ c.in_turn-rule.ensures c.loop-n.invariant c.in_default.ensures
 
 pub returns : goal.returns
 returns c =
