@@ -6,6 +6,6 @@ use Rattle.auction.proofs.orders.basket_value.Goals as goal
 pub returns : goal.returns
 returns c =
     let price : to_z w32 (of_z w32 c.basket-basket.result.price) ≡ c.basket-basket.result.price = search rules in
-    let answer : to_z w64 (of_z w64 c.value-of.result) ≡ c.value-of.result = search rules in
+    let answer : to_z w64 (of_z w64 c.value_of.result) ≡ c.value_of.result = search rules in
     let same = c.basket-basket.ensures.same in
-    answer ∙ c.value-of.ensures ∙ ap₂ order_value (price ∙ same.price) (c.total-of.ensures ∙ same_total _ _ same.quantities)
+    answer ∙ c.value_of.ensures ∙ ap₂ order_value (price ∙ same.price) (c.total_of.ensures ∙ same_total _ _ same.quantities)

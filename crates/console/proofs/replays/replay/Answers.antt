@@ -20,8 +20,8 @@ loop-f-preserved c =
     let l = c.loop-f-test.true in
     let given = vec_items c.loop-f.entered in
     let e : length given ≡ length (take i fs) = omega (arith, c.loop-f.entered.ok.0, c.loop-f.invariant.0, length-take i fs) in (
-      c.in-ok-push.ensures.len ∙ ap (λ (n : ℕ). n + 1) c.loop-f.invariant.0,
-      files_more fs i _ given _ c.enter.result (market_of c.loop-f.book) _ l e c.loop-f.invariant.1 c.enter.ensures.enters c.in-ok-push.ensures.items,
+      c.in_ok-push.ensures.len ∙ ap (λ (n : ℕ). n + 1) c.loop-f.invariant.0,
+      files_more fs i _ given _ c.enter.result (market_of c.loop-f.book) _ l e c.loop-f.invariant.1 c.enter.ensures.enters c.in_ok-push.ensures.items,
     )
 
 pub loop-c-init : goal.loop-c-init
@@ -49,9 +49,9 @@ loop-c-preserved c =
       inv.1,
       inv.2,
       inv.3,
-      came_more inv.0 cs i (standing c.loop-c.console) _ _ c.answer-to.result l at inv.4 c.answer-to.ensures,
-      c.in-ok-push-2.ensures.len ∙ ap (λ (n : ℕ). n + 1) inv.5,
-      so_far_more inv.0 cs i (standing c.loop-c.console) _ _ c.answer-to.result (vec_items c.loop-c.answers) _ l at inv.4 c.answer-to.ensures (omega (arith, c.loop-c.answers.ok.0, inv.5)) c.in-ok-push-2.ensures.items inv.6,
+      came_more inv.0 cs i (standing c.loop-c.console) _ _ c.answer_to.result l at inv.4 c.answer_to.ensures,
+      c.in_ok-push-2.ensures.len ∙ ap (λ (n : ℕ). n + 1) inv.5,
+      so_far_more inv.0 cs i (standing c.loop-c.console) _ _ c.answer_to.result (vec_items c.loop-c.answers) _ l at inv.4 c.answer_to.ensures (omega (arith, c.loop-c.answers.ok.0, inv.5)) c.in_ok-push-2.ensures.items inv.6,
     )
 
 pub returns : goal.returns

@@ -11,7 +11,7 @@ loop-k-init c = summed_none _ _
 pub loop-k-preserved : goal.loop-k-preserved
 loop-k-preserved c =
     let few : c.loop-k.k < 96 = search rules in
-    summed_more _ 9998900010000 _ _ _ (omega arith) (omega arith) c.loop-k.invariant c.of-basket-sum.ensures
+    summed_more _ 9998900010000 _ _ _ (omega arith) (omega arith) c.loop-k.invariant c.of_basket-sum.ensures
 
 pub returns : goal.returns
 returns c =
@@ -19,4 +19,4 @@ returns c =
     let done : c.loop-k.k ≡ length m.extras = search rules in
     let few : length m.extras ≤ 96 = search rules in
     added (of_basket m (held_parts c.args.self.now) c.args.measure c.args.b) (basket_sum m (held_parts c.args.self.now) c.args.measure) (length m.extras) c.loop-k.k c.args.b
-    _ _ _ done few c.parent-sum.ensures.is c.parent-sum.ensures.small c.loop-k.invariant refl
+    _ _ _ done few c.parent_sum.ensures.is c.parent_sum.ensures.small c.loop-k.invariant refl

@@ -8,17 +8,17 @@ use Rattle.auction.specs.Sizes.{extra_measure_within}
 use Rattle.auction.proofs.Terms.{weighed, weighed_term}
 use Rattle.auction.proofs.pricing.PriceProgramme.extra_sum.Goals as goal
 
-product : (c : goal.After-part) → Multiplied (to_z w64 (of_z w64 c.extra-measure.result)) (to_z w64 (of_z w64 c.part.result))
+product : (c : goal.After-part) → Multiplied (to_z w64 (of_z w64 c.extra_measure.result)) (to_z w64 (of_z w64 c.part.result))
     (extra_measure (priced_market c.args.self.now) c.args.measure c.args.k) (held_parts c.args.self.now (160 + c.args.k)) 9998900010000
 product c =
-    let u : to_z w64 (of_z w64 c.extra-measure.result) ≡ c.extra-measure.result = search rules in
+    let u : to_z w64 (of_z w64 c.extra_measure.result) ≡ c.extra_measure.result = search rules in
     let v : to_z w64 (of_z w64 c.part.result) ≡ c.part.result = search rules in
-    weighed _ _ _ _ (u ∙ c.extra-measure.ensures) (v ∙ c.part.ensures.is)
+    weighed _ _ _ _ (u ∙ c.extra_measure.ensures) (v ∙ c.part.ensures.is)
     (extra_measure_within (priced_market c.args.self.now) (closed_lawful c.args.self.now.market.now) c.args.measure c.args.k)
     (subst (λ (z : ℤ). Within 10000 z) c.part.ensures.is c.part.ensures.small)
 
-pub overflow-mul-result : goal.overflow-mul-result
-overflow-mul-result c = (product c).ranges
+pub overflow_mul-result : goal.overflow_mul-result
+overflow_mul-result c = (product c).fits
 
 pub returns : goal.returns
 returns c = weighed_term (extra_sum (priced_market c.args.self.now) (held_parts c.args.self.now) c.args.measure) c.args.k _ _ _ _ refl (product c)

@@ -8,4 +8,4 @@ loop-k-init c = summed_none _ _
 pub loop-k-preserved : goal.loop-k-preserved
 loop-k-preserved c =
     let few : c.loop-k.k < 96 = search rules in
-    summed_more _ 9998900010000 _ _ _ (omega arith) (omega arith) c.loop-k.invariant c.extra-sum-sum.ensures
+    summed_more _ 9998900010000 _ _ _ (omega arith) (omega arith) c.loop-k.invariant c.extra_sum-sum.ensures

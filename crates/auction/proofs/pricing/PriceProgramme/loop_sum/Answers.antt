@@ -8,4 +8,4 @@ loop-b-init c = summed_none _ _
 pub loop-b-preserved : goal.loop-b-preserved
 loop-b-preserved c =
     let few : c.loop-b.b < 96 = search rules in
-    summed_more _ 969893300970000 _ _ _ (omega arith) (omega arith) c.loop-b.invariant c.of-loop-sum.ensures
+    summed_more _ 969893300970000 _ _ _ (omega arith) (omega arith) c.loop-b.invariant c.of_loop-sum.ensures

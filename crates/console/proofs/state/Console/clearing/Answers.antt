@@ -5,16 +5,16 @@ use Rattle.market.proofs.Books.{closed_lawful}
 use Rattle.console.proofs.Laws.{kept_copy, taken_file, read_sized, small_true}
 use Rattle.console.proofs.state.Console.clearing.Goals as goal
 
-pub invariant-of-self : goal.invariant-of-self
-invariant-of-self c =
+pub invariant_of-self : goal.invariant_of-self
+invariant_of-self c =
     let s = c.args.self.now in
     let m = closed_of s.market in
-    let w = c.in-ok-worth.worth in
-    let t = taken_file m _ _ _ w c.in-ok-worth.ensures.judged in
+    let w = c.in_ok-worth.worth in
+    let t = taken_file m _ _ _ w c.in_ok-worth.ensures.judged in
     let a : to_z w64 (of_z w64 w.welfare) ≡ w.welfare = search rules in
     let b : to_z w64 (of_z w64 w.cost) ≡ w.cost = search rules in
-    let n : c.copied.result ≡ take 448 c.judge-file.new.scratch = c.copied.ensures in
-    let z = c.in-ok-worth.ensures.size in (
+    let n : c.copied.result ≡ take 448 c.judge_file.new.scratch = c.copied.ensures in
+    let z = c.in_ok-worth.ensures.size in (
       s.rivals,
       (
         (λ r. refl),

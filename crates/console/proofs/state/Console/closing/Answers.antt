@@ -7,9 +7,9 @@ use Rattle.console.specs.Law.{sized}
 use Rattle.console.proofs.Idle.{idle_keeps, idle_sized}
 use Rattle.console.proofs.state.Console.closing.Goals as goal
 
-pub invariant-of-result : goal.invariant-of-result
-invariant-of-result c =
-    let e = sym c.empty-clearing.ensures in
+pub invariant_of-result : goal.invariant_of-result
+invariant_of-result c =
+    let e = sym c.empty_clearing.ensures in
     let m = closed_of c.close.result in (
       (λ r. refl),
       (

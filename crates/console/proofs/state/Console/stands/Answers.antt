@@ -11,5 +11,5 @@ returns c =
       gaps = gap_covered (standing s) s.rivals;
       prices = price_gap_covered (standing s) s.prices;
       shown = shown_not_below (standing s);
-      says = gap_there s.bound s.held.welfare _ c.is-some.ensures;
+      says = gap_there s.bound s.held.welfare _ c.is_some.ensures;
     }

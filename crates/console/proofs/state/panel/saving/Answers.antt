@@ -3,8 +3,8 @@ use Rattle.std.proofs.lemmas.Int.{to_z-of_z}
 use Rattle.console.proofs.Gaps.{saved}
 use Rattle.console.proofs.state.panel.saving.Goals as goal
 
-pub overflow-cast-result : goal.overflow-cast-result
-overflow-cast-result c =
+pub overflow_cast-result : goal.overflow_cast-result
+overflow_cast-result c =
     let b : SFits w64 c.args.bound = search rules in
     let k : SFits w64 c.args.cost = search rules in
     let u : c.from.result ≡ c.args.bound = simp to_z-of_z at c.from.ensures in
