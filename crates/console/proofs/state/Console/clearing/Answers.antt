@@ -14,16 +14,10 @@ invariant_of-self c =
     let a : to_z w64 (of_z w64 w.welfare) ≡ w.welfare = search rules in
     let b : to_z w64 (of_z w64 w.cost) ≡ w.cost = search rules in
     let n : c.copied.result ≡ take 448 c.judge_file.new.scratch = c.copied.ensures in
-    let z = c.in_ok-worth.ensures.size in (
-      s.rivals,
-      (
-        (λ r. refl),
-        (
-          kept_copy m _ _ _ _ _ _ n a b t.keeps,
-          (
-            (λ v h. read_sized m (closed_lawful s.market) _ _ _ (to_z w64 (of_z w64 w.welfare)) (to_z w64 (of_z w64 w.cost)) t.reads n v h),
-            (subst (λ (k : ℤ). le_z k (pos 5000000000000000) ≡ true) (sym b) (small_true w.cost (pos 5000000000000000) z.1), tt),
-          ),
-        ),
-      ),
-    )
+    let z = c.in_ok-worth.ensures.size in record {
+      rivals = s.rivals;
+      prices = λ r. refl;
+      kept = kept_copy m _ _ _ _ _ _ n a b t.keeps;
+      fair = λ v h. read_sized m (closed_lawful s.market) _ _ _ (to_z w64 (of_z w64 w.welfare)) (to_z w64 (of_z w64 w.cost)) t.reads n v h;
+      cheap = subst (λ (k : ℤ). le_z k (pos 5000000000000000) ≡ true) (sym b) (small_true w.cost (pos 5000000000000000) z.1);
+    }

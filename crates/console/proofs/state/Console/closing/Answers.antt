@@ -10,16 +10,10 @@ use Rattle.console.proofs.state.Console.closing.Goals as goal
 pub invariant_of-result : goal.invariant_of-result
 invariant_of-result c =
     let e = sym c.empty_clearing.ensures in
-    let m = closed_of c.close.result in (
-      (λ r. refl),
-      (
-        (λ r. refl),
-        (
-          subst (λ (h : Held). ∥ Kept m h ∥₁) e ∣ idle_keeps m ∣₁,
-          (
-            (λ v l. subst (λ (h : Held). sized h v ≡ true) e (idle_sized v)),
-            (subst (λ (h : Held). le_z h.cost (pos 5000000000000000) ≡ true) e refl, tt),
-          ),
-        ),
-      ),
-    )
+    let m = closed_of c.close.result in record {
+      rivals = λ r. refl;
+      prices = λ r. refl;
+      kept = subst (λ (h : Held). ∥ Kept m h ∥₁) e ∣ idle_keeps m ∣₁;
+      fair = λ v l. subst (λ (h : Held). sized h v ≡ true) e (idle_sized v);
+      cheap = subst (λ (h : Held). le_z h.cost (pos 5000000000000000) ≡ true) e refl;
+    }

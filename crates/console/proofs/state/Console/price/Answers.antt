@@ -11,4 +11,10 @@ invariant_of-self-2 c =
     let a : to_z w64 (of_z w64 c.lesser.result) ≡ c.lesser.result = search rules in
     let b : to_z w64 (of_z w64 x) ≡ x = search rules in
     let e : ◌≡◌ {A = Option ℤ} (Some (to_z w64 (of_z w64 c.lesser.result))) (lower s.price_bound x) = ap Some a ∙ (c.lesser.ensures ∙ ap (lower s.price_bound) b) in
-    (s.rivals, (prices_lower (closed_of s.market) s.held s.price_bound _ x e s.prices c.in_ok-bound.ensures.bounds, (s.kept, (s.fair, (s.cheap, tt)))))
+    record {
+      rivals = s.rivals;
+      prices = prices_lower (closed_of s.market) s.held s.price_bound _ x e s.prices c.in_ok-bound.ensures.bounds;
+      kept = s.kept;
+      fair = s.fair;
+      cheap = s.cheap;
+    }
