@@ -2,7 +2,7 @@
 """Brings the repository's own definitions and lemmas to one spelling: functions, lemmas and fields in snake case, facts and
 records in upper camel case.
 
-usage: respell.py [--list]
+usage: respell.py [--list], once, at the top of the repository as the kit's script left it
 
 A name is respelled in every file of crates/ and in the edits of misuse/, planted/ and must-fail/. It stays in a file that imports it from a
 library of the toolchain, and where it is a label that the check makes of the code (in Answers, Invariants and Proof files).
@@ -64,7 +64,18 @@ def own_names(files):
             blanks, words, name = match.groups()
             if len(blanks) <= 2 or "pub" in words or re.search(rf"^{blanks}{re.escape(name)} .*=", text, re.M):
                 names.add(name)
+    for file in files:
+        names |= set(re.findall(rf"^(?:ghost )?use .* as ({NAME})\}};?$", file.read_text(), re.M))
     return names
+
+
+def plainly(text):
+    """A word of the library goes by its own name, where it had another that stands for something else there."""
+    if "{AllByRecursion as All}" not in text:
+        return text
+    text = text.replace("{AllByRecursion as All}", "{AllByRecursion}")
+    lines = text.split("\n")
+    return "\n".join(line if line.lstrip().startswith("--") else re.sub(NAME, lambda m: "AllByRecursion" if m.group(0) == "All" else m.group(0), line) for line in lines)
 
 
 def imported(text):
@@ -110,7 +121,7 @@ def main():
         return
     for file in files + beside:
         text = file.read_text()
-        new, _ = turn(text, names, file.name in MADE)
+        new, _ = turn(plainly(text), names, file.name in MADE)
         if new != text:
             file.write_text(new)
 

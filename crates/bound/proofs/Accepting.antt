@@ -6,7 +6,7 @@ use Rattle.std.proofs.lemmas.Int.{ints}
 use Rattle.std.proofs.lemmas.List.Sums.{fold_push}
 use Rattle.std.proofs.lemmas.Bool.{and_from, and_right, cond-true, cond-false, lt-ltb, le-ltb}
 use Rattle.std.specs.Int.{int_max}
-use Rattle.std.specs.List.{AllByRecursion as All}
+use Rattle.std.specs.List.{AllByRecursion}
 use Rattle.records.specs.Read.{read}
 use Rattle.records.specs.Write.{encode, padded, written, Writable}
 use Rattle.records.proofs.Writing.{reads_back}
@@ -84,7 +84,7 @@ module _ (file : List ℕ) where
   reads_close p rest at = reads p 10 [] rest Close at (record { count = 0; counted = refl; few = omega arith; mapped = omega arith; fit = tt }) refl
 
   leaf_reads : (t : Table) (b : ℤ) → t.rows ≤ 1024 → (more : List Weight) (n : ℕ) (ws : List Weight) (p : ℕ) (rest : List ℕ) → length file ≤ n + p → At p (leaf_bytes more) rest
-      → All (Weighs t) more → Rising (next_row ws) more → leaf_bound t (ws ++ more) ≡ Some b → leaf_at n t file ws p ≡ Ok (Leaf b, p + length (leaf_bytes more))
+      → AllByRecursion (Weighs t) more → Rising (next_row ws) more → leaf_bound t (ws ++ more) ≡ Some b → leaf_at n t file ws p ≡ Ok (Leaf b, p + length (leaf_bytes more))
   leaf_reads t b few [] n ws p rest enough at all rising is =
       leaf_ok n t file ws p enough Close _ (reads_close p rest at)
       ∙ ap (λ o. and_then (closing o p) (λ f. Ok (f, p + length (encode 10 [])))) (ap (leaf_bound t) (sym (append-nil ws)) ∙ is)

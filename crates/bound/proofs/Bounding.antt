@@ -5,7 +5,7 @@ use Rattle.std.proofs.lemmas.Nat.{mul-le}
 use Rattle.std.proofs.lemmas.Int.{ints}
 use Rattle.std.proofs.lemmas.Bool.{eqb-true}
 use Rattle.std.specs.Int.{int_max}
-use Rattle.std.specs.List.{AllByRecursion as All}
+use Rattle.std.specs.List.{AllByRecursion}
 use Rattle.bound.specs.declared.leaf.Weight.{Weight}
 use Rattle.bound.specs.Tables.{Table, Lawful, Small}
 use Rattle.bound.specs.Points.{Point, Bounds}
@@ -72,7 +72,7 @@ split_bounds t v x y known marked low high off on D X one point =
       | inr whole ↦ le_trans _ _ _ (on D X one (held_point t D X v (pos 1) point whole)) (mul_le_right D y (int_max x y) (le_max_right x y))
     ]
 
-positive : (t : Table) (ws : List Weight) → All (Weighs t) ws → Positive ws
+positive : (t : Table) (ws : List Weight) → AllByRecursion (Weighs t) ws → Positive ws
 positive t [] all = tt
 positive t (w ∷ ws) all = (all.0.least, positive t ws all.1)
 

@@ -3,7 +3,7 @@ use Rattle.std.proofs.Common.{◌≡◌, ℕ, ◌+◌, ◌-◌, ◌≤◌, Bool,
 use Rattle.std.proofs.ByRecursion.{All-drop}
 use Rattle.std.proofs.lemmas.List.{drop-drop, drop_all}
 use Rattle.std.proofs.lemmas.Bool.{eqb-true, cond-false}
-use Rattle.std.specs.List.{AllByRecursion as All}
+use Rattle.std.specs.List.{AllByRecursion}
 use Rattle.records.specs.Read.{Content, read, field_count}
 use Rattle.records.specs.Write.{Byte, encode}
 use Rattle.records.specs.declared.Fault.{Fault as RecordFault}
@@ -60,7 +60,7 @@ take_two (y ∷ []) h = absurd (omega arith)
 take_two (y ∷ z ∷ zs) h = refl
 
 -- each step is the bytes of its record
-module _ (file : List ℕ) (bytes : All Byte file) (p q : ℕ) where
+module _ (file : List ℕ) (bytes : AllByRecursion Byte file) (p q : ℕ) where
   record_bytes : (c : Content) (own : Own tree_kinds c) → read tree_kinds (drop p file) ≡ Ok c → p + c.size ≡ q → drop p file ≡ encode c.kind (take own.count c.fields) ++ drop q file
   record_bytes c own is past =
       let few = take own.count c.fields in
@@ -102,7 +102,7 @@ module _ (file : List ℕ) (bytes : All Byte file) (p q : ℕ) where
       let ten = sym (eqb-true 10 e.kind none.0) in
       record_bytes e own k.1 k.3 ∙ (λ i. encode (ten i) (take (none.1 i) e.fields) ++ drop q file)
 
-module _ (file : List ℕ) (bytes : All Byte file) where
+module _ (file : List ℕ) (bytes : AllByRecursion Byte file) where
   leaf_bytes_lem : (ws : List Weight) (p q : ℕ) → SpellsLeaf file p ws q → drop p file ≡ leaf_bytes ws ++ drop q file
   leaf_bytes_lem [] p q h = close_bytes file bytes p q h
   leaf_bytes_lem (w ∷ ws) p q h =

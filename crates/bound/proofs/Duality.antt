@@ -2,7 +2,7 @@
 use Rattle.std.proofs.Common.{◌≡◌, ℕ, zero, suc, ◌+◌, ◌*◌, ◌<◌, ◌≤◌, Bool, true, false, cond, leb, List, [], ◌∷◌, ℤ, pos, negsuc, ◌+ℤ◌, ◌-ℤ◌, ◌*ℤ◌, nat_abs, ◌≤ℤ◌, Some, None, Option, sym, refl, ap, ◌∙◌, inl, inr, add-zero, zero-add, arith}
 use lib.IntN.{zero-*ℤ}
 use Rattle.std.proofs.lemmas.Bool.{cases_lt}
-use Rattle.std.specs.List.{AllByRecursion as All}
+use Rattle.std.specs.List.{AllByRecursion}
 use Rattle.std.specs.Int.{int_max}
 use Rattle.std.proofs.lemmas.Int.{ints}
 use Rattle.bound.specs.declared.leaf.Weight.{Weight}
@@ -46,7 +46,7 @@ by_weight (negsuc n) a b one h = absurd one.le
 
 -- every weight is at least 1
 abbrev pub Positive : List Weight → Type 0
-Positive ws = All (λ w. pos 1 ≤ℤ w.weight) ws
+Positive ws = AllByRecursion (λ w. pos 1 ≤ℤ w.weight) ws
 
 -- ---- the two sums that the weights make
 

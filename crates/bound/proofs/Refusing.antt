@@ -6,7 +6,7 @@ use Rattle.std.proofs.lemmas.Int.{ints}
 use Rattle.std.proofs.lemmas.List.Sums.{fold_push}
 use Rattle.std.proofs.lemmas.Bool.{leb-true, leb-false, ltb-true, ltb-false, lt-ltb, and_parts, cases_Bool}
 use Rattle.std.specs.Int.{int_max}
-use Rattle.std.specs.List.{AllByRecursion as All}
+use Rattle.std.specs.List.{AllByRecursion}
 use Rattle.records.specs.Read.{Content, read}
 use Rattle.records.specs.Write.{Byte, encode}
 use Rattle.records.specs.declared.Fault.{Fault as RecordFault}
@@ -156,7 +156,7 @@ some_wrong n t ws (b ∷ bs) f some h = h
 differ : ◌≡◌ {A = Bool} false true → ⊥
 differ h = let z : ◌≡◌ {A = ℕ} 0 1 = cc in omega arith
 
-module _ (file : List ℕ) (bytes : All Byte file) where
+module _ (file : List ℕ) (bytes : AllByRecursion Byte file) where
   left_over : (p q : ℕ) (xs : List ℕ) → p ≤ length file → q ≤ length file → drop p file ≡ xs ++ drop q file → q ≡ p + length xs
   left_over p q xs a b e = omega (arith, ap length e, length-append xs (drop q file), length-drop p file, length-drop q file)
 
@@ -200,7 +200,7 @@ module _ (file : List ℕ) (bytes : All Byte file) where
 
   abbrev LeafStops : ℕ → Table → List Weight → ℕ → Refusal → Type 0
   LeafStops n t ws p e =
-      (more : List Weight) × (rest : List ℕ) × (drop p file ≡ rows_bytes more ++ rest) × (e.place ≡ p + length (rows_bytes more)) × All (Weighs t) more × Rising (next_row ws) more × Wrong n t (ws ++ more) rest e.fault
+      (more : List Weight) × (rest : List ℕ) × (drop p file ≡ rows_bytes more ++ rest) × (e.place ≡ p + length (rows_bytes more)) × AllByRecursion (Weighs t) more × Rising (next_row ws) more × Wrong n t (ws ++ more) rest e.fault
 
   -- it is wrong at once
   at_once : (n : ℕ) (t : Table) (ws : List Weight) (p : ℕ) (e : Refusal) → p ≡ e.place → Wrong n t ws (drop p file) e.fault → LeafStops n t ws p e

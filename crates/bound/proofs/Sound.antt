@@ -3,7 +3,7 @@ use Rattle.std.proofs.Common.{◌≡◌, ℕ, zero, suc, ◌+◌, ◌<◌, ◌�
 use Rattle.std.proofs.lemmas.Bool.{ltb-true, ltb-false, le-ltb, leb-true, le-leb, cond-true, cond-false}
 use Rattle.std.proofs.lemmas.List.Sums.{fold_push}
 use Rattle.std.specs.Int.{int_max}
-use Rattle.std.specs.List.{AllByRecursion as All}
+use Rattle.std.specs.List.{AllByRecursion}
 use Rattle.bound.specs.declared.faults.Fault.TheVariants.{Record, SplitBarred, TooDeep, NotOneTree}
 use Rattle.records.specs.declared.Fault.TheVariants.{TooLong}
 use Rattle.bound.specs.declared.faults.Refusal.{Refusal}
@@ -26,7 +26,7 @@ use Rattle.bound.proofs.Descent.{allowed_is}
 -- what an opened node says of the file from p up to q, after the weights ws
 abbrev pub Says : Table → List ℕ → List Weight → ℕ → Found → ℕ → Type 0
 Says t file ws p (Branch v) q = (length ws ≡ 0) × (v < t.variables) × (step_at file p ≡ Ok (Split (pos v), q))
-Says t file ws p (Leaf b) q = (more : List Weight) × All (Weighs t) more × Rising (next_row ws) more × SpellsLeaf file p more q × (leaf_bound t (ws ++ more) ≡ Some b)
+Says t file ws p (Leaf b) q = (more : List Weight) × AllByRecursion (Weighs t) more × Rising (next_row ws) more × SpellsLeaf file p more q × (leaf_bound t (ws ++ more) ≡ Some b)
 
 -- a split that was accepted
 branch_at : (variables count p k : ℕ) (f : Found) (b : Bool) → b ≡ ltb k variables → branching count p (cond b (Some k) None) ≡ Ok f → (count ≡ 0) × (k < variables) × (f ≡ Branch k)

@@ -1,6 +1,6 @@
 -- All that is promised of a check, from what it answers.
 use Rattle.std.proofs.Common.{◌≡◌, ℕ, List, ℤ, IfOk, Ok, Err, Result, sym, ◌∙◌}
-use Rattle.std.specs.List.{AllByRecursion as All}
+use Rattle.std.specs.List.{AllByRecursion}
 use Rattle.records.specs.Write.{Byte}
 use Rattle.bound.specs.declared.faults.Refusal.{Refusal}
 use Rattle.bound.specs.Tables.{Table, Lawful}
@@ -17,14 +17,14 @@ use Rattle.bound.proofs.Sound.{node_proved, checked_is, checked_fits}
 pub checked_bounds : (t : Table) (file : List ℕ) (b : ℤ) → Lawful t → checked t file ≡ Ok b → Bounds t b
 checked_bounds t file b lawful is = let p = checked_fits t file b is in tree_bounds 64 t p.0 b lawful p.1 p.2
 
-checked_proves : (t : Table) (file : List ℕ) (b : ℤ) → All Byte file → checked t file ≡ Ok b → Proves t file b
+checked_proves : (t : Table) (file : List ℕ) (b : ℤ) → AllByRecursion Byte file → checked t file ≡ Ok b → Proves t file b
 checked_proves t file b bytes h =
     let c = checked_is t file b h in
     let k = node_proved 64 t file 0 (b, c.0) c.2 in
     (k.0, file_bytes file bytes k.0 c.0 c.1 k.1, k.2, k.3)
 
 module _ (t : Table) (lawful : Lawful t) (file : List ℕ) where
-  pub all_proves : (r : Result ℤ Refusal) → All Byte file → r ≡ checked t file → IfOk r (λ b. Proves t file b)
+  pub all_proves : (r : Result ℤ Refusal) → AllByRecursion Byte file → r ≡ checked t file → IfOk r (λ b. Proves t file b)
   all_proves (Ok b) bytes is = checked_proves t file b bytes (sym is)
   all_proves (Err e) bytes is = tt
 

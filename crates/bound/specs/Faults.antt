@@ -1,5 +1,5 @@
 -- The number and the layer of each fault.
-use Rattle.records.specs.Faults.{Code, code as recordCode}
+use Rattle.records.specs.Faults.{Code, code as record_code}
 use Rattle.records.specs.declared.Refusal.{Refusal as RecordRefusal}
 use Rattle.bound.specs.declared.faults.Fault.{Fault}
 use Rattle.bound.specs.declared.faults.Fault.TheVariants.{Record, OutsideLimits, Absent, NotRising, SplitBarred, TooDeep, NotOneTree, TooLarge}
@@ -7,7 +7,7 @@ use Rattle.bound.specs.declared.faults.Refusal.{Refusal}
 
 -- those of the records keep theirs
 abbrev pub code : Fault → Code
-code (Record f) = recordCode f
+code (Record f) = record_code f
 code OutsideLimits = record { number = 6; layer = 2 }
 code Absent = record { number = 7; layer = 2 }
 code NotRising = record { number = 11; layer = 2 }

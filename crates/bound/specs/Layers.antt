@@ -2,7 +2,7 @@
 use Rattle.std.specs.Prelude.{ℕ, ◌+◌, ◌-◌, ◌≤◌, true, false, cond, List, [], ◌∷◌, ◌++◌, length, take, ℤ, pos, ◌≤ℤ◌, Ok, Err, Result, ◌==◌, nat_le, nat_lt, slice_index_or, slice_set, unsigned_abs}
 use Rattle.std.specs.Int.Signed.{≤ℤ_refl}
 use Rattle.std.proofs.Common.{le-ltb}
-use Rattle.std.specs.List.{AllByRecursion as All}
+use Rattle.std.specs.List.{AllByRecursion}
 use Rattle.std.proofs.ByRecursion.{All-take, All-from_get_or}
 use Rattle.bound.specs.declared.faults.Fault.{Fault}
 use Rattle.bound.specs.declared.faults.Fault.TheVariants.{OutsideLimits, Absent, TooDeep}
@@ -41,13 +41,13 @@ ordered_held v (x ∷ xs) a b h =
     elim (x.variable == v) as (λ c. cond c x.value (held_or v a xs) ≤ℤ cond c x.value (held_or v b xs))
     [ true ↦ ≤ℤ_refl x.value | false ↦ ordered_held v xs a b h ]
 
-small_held : (v : ℕ) (hs : List Held) (a : ℤ) → Small a → All SmallHeld hs → Small (held_or v a hs)
+small_held : (v : ℕ) (hs : List Held) (a : ℤ) → Small a → AllByRecursion SmallHeld hs → Small (held_or v a hs)
 small_held v [] a h all = h
 small_held v (x ∷ xs) a h all =
     elim (x.variable == v) as (λ c. Small (cond c x.value (held_or v a xs)))
     [ true ↦ all.0 | false ↦ small_held v xs a h all.1 ]
 
-pub fixed_lawful : (t : Table) (hs : List Held) → Lawful t → All SmallHeld hs → Lawful (fixed t hs)
+pub fixed_lawful : (t : Table) (hs : List Held) → Lawful t → AllByRecursion SmallHeld hs → Lawful (fixed t hs)
 fixed_lawful t hs l all =
     record {
       scale_least = l.scale_least;

@@ -1,6 +1,6 @@
 -- Layers piled over a table, and what an accepted tree proves of them.
 use Rattle.std.specs.Prelude.{◌≡◌, ℕ, ◌≤◌, List, length, ℤ, Ok}
-use Rattle.std.specs.List.{AllByRecursion as All}
+use Rattle.std.specs.List.{AllByRecursion}
 use Rattle.bound.specs.declared.fixing.Held.{Held}
 use Rattle.bound.specs.Tables.{Table, Lawful}
 use Rattle.bound.specs.Points.{Bounds}
@@ -22,7 +22,7 @@ table_of (sheet p) = table_of p
 -- the table is lawful, and a fixing holds at most 64 variables at small values
 abbrev pub Stands : Pile → Type 0
 Stands (base t) = Lawful t
-Stands (fixing hs p) = (length hs ≤ 64) × All SmallHeld hs × Stands p
+Stands (fixing hs p) = (length hs ≤ 64) × AllByRecursion SmallHeld hs × Stands p
 Stands (sheet p) = Stands p
 
 -- over every pile, a file that is accepted bounds every point over any denominator

@@ -1,6 +1,6 @@
 -- Why a file is refused: up to the place of the refusal its bytes begin a tree that fits the table, and what stands there is wrong.
 use Rattle.std.specs.Prelude.{◌≡◌, ℕ, zero, suc, ◌<◌, ◌≤◌, true, ◌⊎◌, List, [], ◌∷◌, ◌++◌, length, ℤ, pos, ◌≤ℤ◌, Some, None, Ok, Err, Result}
-use Rattle.std.specs.List.{AllByRecursion as All}
+use Rattle.std.specs.List.{AllByRecursion}
 use Rattle.records.specs.Read.{Content, read}
 use Rattle.records.specs.Write.{encode}
 use Rattle.records.specs.declared.Fault.{Fault as RecordFault}
@@ -74,7 +74,7 @@ Wrong n t ws (b ∷ bs) f = WrongRecord n t ws (read tree_kinds (b ∷ bs)) f
 
 -- the path fits the table, where at most n splits are allowed, and the bytes after it are wrong there
 abbrev pub Stops : ℕ → Table → Path → List ℕ → Fault → Type 0
-Stops n t (within ws) rest f = All (Weighs t) ws × Rising 0 ws × Wrong n t ws rest f
+Stops n t (within ws) rest f = AllByRecursion (Weighs t) ws × Rising 0 ws × Wrong n t ws rest f
 Stops zero t (off v p) rest f = ⊥
 Stops (suc n) t (off v p) rest f = MaySplit t v × Stops n (holding t v (pos 0)) p rest f
 Stops zero t (on v a p) rest f = ⊥

@@ -1,7 +1,7 @@
 -- A tree of splits, where it may stand, the bound that it proves, and its bytes.
 use Rattle.std.specs.Prelude.{◌≡◌, ℕ, zero, suc, ◌+◌, ◌<◌, ◌≤◌, true, List, [], ◌∷◌, ◌++◌, length, ℤ, pos, ◌≤ℤ◌, Some, Ok, Option, Result}
 use Rattle.std.specs.Int.{int_max}
-use Rattle.std.specs.List.{AllByRecursion as All}
+use Rattle.std.specs.List.{AllByRecursion}
 use Rattle.records.specs.Write.{encode}
 use Rattle.bound.specs.declared.faults.Refusal.{Refusal}
 use Rattle.bound.specs.declared.leaf.Weight.{Weight}
@@ -28,7 +28,7 @@ Rising next (w ∷ ws) = (next ≤ w.row) × Rising (w.row + 1) ws
 -- the tree fits the table: at most n splits are on a path; each is on a whole variable whose limits there are 0 and 1, which its
 -- sides hold at 0 and at 1; a leaf weighs rising rows
 abbrev pub Sits : ℕ → Table → Tree → Type 0
-Sits n t (leaf ws) = All (Weighs t) ws × Rising 0 ws
+Sits n t (leaf ws) = AllByRecursion (Weighs t) ws × Rising 0 ws
 Sits zero t (split v a b) = ⊥
 Sits (suc n) t (split v a b) =
     (v < t.variables) × (t.whole v ≡ true) × (t.low v ≡ pos 0) × (t.high v ≡ pos 1)

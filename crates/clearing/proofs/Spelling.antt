@@ -1,6 +1,6 @@
 -- The bytes of the marks of a file.
 use Rattle.std.proofs.Common.{◌≡◌, ℕ, suc, ◌+◌, ◌-◌, ◌≤◌, Bool, true, false, cond, eqb, List, [], ◌∷◌, ◌++◌, length, get_or, take, drop, ℤ, pos, Some, None, Ok, Option, sym, refl, ap, ◌∙◌, subst, ⊎_elim, arith, take-add}
-use Rattle.std.specs.List.{AllByRecursion as All}
+use Rattle.std.specs.List.{AllByRecursion}
 use Rattle.std.proofs.ByRecursion.{All-drop}
 use Rattle.std.proofs.lemmas.List.{append-nil, append_assoc}
 use Rattle.std.proofs.lemmas.Bool.{cases_eq, ne_eqb, cond-false}
@@ -48,7 +48,7 @@ same_record a b k count e =
     (cases_eq 6 k)
 
 -- the bytes of a record are those of its mark
-mark_bytes : (bs : List ℕ) (c : Content) → All Byte bs → read kinds bs ≡ Ok c → take c.size bs ≡ written (mark_of c)
+mark_bytes : (bs : List ℕ) (c : Content) → AllByRecursion Byte bs → read kinds bs ≡ Ok c → take c.size bs ≡ written (mark_of c)
 mark_bytes bs c all is =
     let own = read_own kinds bs c is in
     let two : own.count ≡ 2 = two_fields (eqb 6 c.kind) (eqb 7 c.kind) own.count own.counted in
@@ -60,7 +60,7 @@ mark_bytes bs c all is =
     ∙ same_record (get_or c.fields 0 (pos 0)) (get_or c.fields 1 (pos 0)) c.kind own.count own.counted
 
 -- from p on, the bytes are those of the marks
-pub run_bytes : (m : Market) (file : List ℕ) → All Byte file → (p : ℕ) (last : Option Mark) (xs : List Mark) (q : ℕ) (end : Option Mark) → Run m file p last xs q end
+pub run_bytes : (m : Market) (file : List ℕ) → AllByRecursion Byte file → (p : ℕ) (last : Option Mark) (xs : List Mark) (q : ℕ) (end : Option Mark) → Run m file p last xs q end
     → take q file ≡ take p file ++ bytes_of xs
 run_bytes m file all p last [] q end run = ap (λ n. take n file) run.0 ∙ sym (append-nil (take p file))
 run_bytes m file all p last (x ∷ xs) q end run =

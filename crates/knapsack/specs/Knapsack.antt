@@ -5,7 +5,7 @@ use Rattle.std.specs.Int.Signed.{le_z_yes}
 use Rattle.std.proofs.ByRecursion.{All-get_or}
 use Rattle.std.proofs.lemmas.List.{get_or_past}
 use Rattle.std.proofs.lemmas.Bool.{le-ltb, cases_lt}
-use Rattle.std.specs.List.{AllByRecursion as All}
+use Rattle.std.specs.List.{AllByRecursion}
 use Rattle.bound.specs.Tables.{Table, Lawful, Small}
 use Rattle.knapsack.specs.declared.items.Item.{Item}
 use Rattle.knapsack.specs.Items.{items, nothing, item_at}
@@ -29,7 +29,7 @@ knapsack =
     }
 
 -- what holds of each thing and of nothing
-each_item : (P : Item → Type 0) → All P items → P nothing → (v : ℕ) → P (item_at v)
+each_item : (P : Item → Type 0) → AllByRecursion P items → P nothing → (v : ℕ) → P (item_at v)
 each_item P all none v =
     elim (cases_lt v 4) [ inl within ↦ All-get_or P items v nothing within all | inr past ↦ subst P (sym (get_or_past items v nothing past)) none ]
 

@@ -2,7 +2,7 @@
 use Rattle.std.proofs.Common.{◌≡◌, ℕ, ◌+◌, ◌-◌, ◌≤◌, true, false, List, [], ◌∷◌, ◌++◌, length, take, drop, Ok, sym, ap, ◌∙◌, subst, arith, take-add}
 use Rattle.std.proofs.ByRecursion.{All-drop}
 use Rattle.std.proofs.lemmas.List.{append-nil, append_assoc}
-use Rattle.std.specs.List.{AllByRecursion as All}
+use Rattle.std.specs.List.{AllByRecursion}
 use Rattle.records.specs.Read.{Content, read}
 use Rattle.records.specs.Write.{Byte, encode}
 use Rattle.records.proofs.Rewriting.{begins}
@@ -33,7 +33,7 @@ pub bytes_more : (file : List ℕ) (p size : ℕ) (es : List Entry) (e : Entry) 
 bytes_more file p size es e before here = take-add p size file ∙ (λ i. before i ++ here i) ∙ sym (bytes_of_more es e)
 
 -- the bytes of a record that a book takes, at the place p of a file
-pub bytes_here : (m : Market) → length m.windows ≤ 255 → length m.baskets ≤ 255 → (bs : List ℕ) (c : Content) → All Byte bs → read kinds bs ≡ Ok c → limits c ≡ true → absent m (entry_in c) ≡ false → take c.size bs ≡ encode (kind_in (entry_in c)) (spelt (entry_in c))
+pub bytes_here : (m : Market) → length m.windows ≤ 255 → length m.baskets ≤ 255 → (bs : List ℕ) (c : Content) → AllByRecursion Byte bs → read kinds bs ≡ Ok c → limits c ≡ true → absent m (entry_in c) ≡ false → take c.size bs ≡ encode (kind_in (entry_in c)) (spelt (entry_in c))
 bytes_here m fw fb bs c all is h a =
     let own = read_own kinds bs c is in
     begins kinds bs c all is ∙ ap (encode c.kind) own.parts ∙ encode_more c.kind (take own.count c.fields) (16 - own.count)
@@ -43,7 +43,7 @@ bytes_here m fw fb bs c all is h a =
 abbrev pub SoFar : Market → List ℕ → ℕ → Market → Type 0
 SoFar m file p n = (es : List Entry) × (take p file ≡ bytes_of es) × Grows m es n
 
-pub so_far_more : (m : Market) (file : List ℕ) (p q : ℕ) (was after : Book) (c : Content) → All Byte file → SoFar m file p (market_of was) → read kinds (drop p file) ≡ Ok c → q ≡ p + c.size → limits c ≡ true → absent (market_of was) (entry_in c) ≡ false → market_of after ≡ put (market_of was) (entry_in c) → SoFar m file q (market_of after)
+pub so_far_more : (m : Market) (file : List ℕ) (p q : ℕ) (was after : Book) (c : Content) → AllByRecursion Byte file → SoFar m file p (market_of was) → read kinds (drop p file) ≡ Ok c → q ≡ p + c.size → limits c ≡ true → absent (market_of was) (entry_in c) ≡ false → market_of after ≡ put (market_of was) (entry_in c) → SoFar m file q (market_of after)
 so_far_more m file p q was after c all so_far is place fits there grown =
     let lawful = book_lawful was in
     let es = so_far.0 in

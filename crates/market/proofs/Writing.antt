@@ -1,6 +1,6 @@
 -- An entry that keeps the lines can be written as a record, and is read back from it with nothing wrong.
 use Rattle.std.proofs.Common.{◌≡◌, ℕ, suc, ◌+◌, ◌<◌, ◌≤◌, Bool, true, false, cond, List, [], ◌∷◌, ◌++◌, map, length, get_or, ℤ, pos, negsuc, Ok, refl, ap, ◌∙◌, arith, w32, SFits}
-use Rattle.std.specs.List.{AllByRecursion as All}
+use Rattle.std.specs.List.{AllByRecursion}
 use Rattle.std.proofs.lemmas.List.{length_push, length-map}
 use Rattle.std.proofs.lemmas.Int.{ints}
 use Rattle.records.specs.Read.{read}
@@ -30,7 +30,7 @@ price_fits : (z : ℤ) → Price z → SFits w32 z
 price_fits (pos n) h = record { sfits = let l : n ≤ 99999 = omega (arith, ints, h.1) in omega arith }
 price_fits (negsuc n) h = record { sfits = let l : n ≤ 99998 = omega (arith, ints, h.0) in omega arith }
 
-quantities_fit : (qs : List ℕ) (z : ℤ) → ((p : ℕ) → p < length qs → get_or qs p 0 ≤ 999) → SFits w32 z → All (SFits w32) (map pos qs ++ z ∷ [])
+quantities_fit : (qs : List ℕ) (z : ℤ) → ((p : ℕ) → p < length qs → get_or qs p 0 ≤ 999) → SFits w32 z → AllByRecursion (SFits w32) (map pos qs ++ z ∷ [])
 quantities_fit [] z h f = (f, tt)
 quantities_fit (q ∷ qs) z h f = (small_fits q (omega (arith, h 0 (omega arith))), quantities_fit qs z (λ p l. h (suc p) (omega arith)) f)
 
@@ -47,7 +47,7 @@ permit_small false = omega arith
 six_long : (qs : List ℕ) (z : ℤ) → length qs ≡ 6 → length (map pos qs ++ z ∷ []) ≡ 7
 six_long qs z h = length_push (map pos qs) z ∙ ap (λ n. n + 1) (length-map qs pos ∙ h)
 
-extra_writable : (r : Role) (zs : List ℤ) → length zs ≡ 8 → All (SFits w32) zs → Writable kinds (role_kind r) zs
+extra_writable : (r : Role) (zs : List ℤ) → length zs ≡ 8 → AllByRecursion (SFits w32) zs → Writable kinds (role_kind r) zs
 extra_writable Child zs h f = record { count = 8; counted = refl; few = omega arith; mapped = omega arith; fit = f }
 extra_writable Substitute zs h f = record { count = 8; counted = refl; few = omega arith; mapped = omega arith; fit = f }
 

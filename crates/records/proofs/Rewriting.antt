@@ -6,7 +6,7 @@ use Rattle.std.proofs.lemmas.Nat.{div-mul-add, mod-mul-add, div_below, mul-le, d
 use Rattle.std.proofs.lemmas.Int.{of_z-to_z}
 use Rattle.std.proofs.lemmas.Bool.{eqb-true, eqb-false, or_parts}
 use Rattle.records.specs.declared.Kind.{Kind}
-use Rattle.std.specs.List.{AllByRecursion as All}
+use Rattle.std.specs.List.{AllByRecursion}
 use Rattle.records.specs.Bytes.{big_endian, narrow, wide, is_narrow, width, value}
 use Rattle.records.specs.Read.{field_count, is_zero, has_zero, values, fields, Content, body, read}
 use Rattle.records.specs.Write.{Byte, digits, field_bytes, map_of, packed, encode, WritesBack}
@@ -26,12 +26,12 @@ digits_front zero x = ap (λ k. k % 256 ∷ []) (sym (div-one x))
 digits_front (suc n) x =
     ap (λ l. l ++ (x % 256) ∷ []) (digits_front n (x / 256)) ∙ ap (λ k. k % 256 ∷ (digits n (x / 256) ++ (x % 256) ∷ [])) (shift_front x n)
 
-big_endian_high : (a : ℕ) (ds : List ℕ) → All Byte ds → big_endian a ds / 256 ^ length ds ≡ a
+big_endian_high : (a : ℕ) (ds : List ℕ) → AllByRecursion Byte ds → big_endian a ds / 256 ^ length ds ≡ a
 big_endian_high a [] h = div-one a
 big_endian_high a (d ∷ ds) h =
     sym (shift_back (big_endian (a * 256 + d) ds) (length ds)) ∙ ap (λ k. k / 256) (big_endian_high (a * 256 + d) ds h.1) ∙ div-mul-add a 256 d h.0
 
-digits_back : (a : ℕ) (ds : List ℕ) → All Byte ds → digits (length ds) (big_endian a ds) ≡ ds
+digits_back : (a : ℕ) (ds : List ℕ) → AllByRecursion Byte ds → digits (length ds) (big_endian a ds) ≡ ds
 unfolding digits
 digits_back a [] h = refl
 digits_back a (d ∷ ds) h =
@@ -39,7 +39,7 @@ digits_back a (d ∷ ds) h =
     ∙ (λ i. (big_endian_high (a * 256 + d) ds h.1 i % 256) ∷ digits_back (a * 256 + d) ds h.1 i)
     ∙ ap (λ k. k ∷ ds) (mod-mul-add a 256 d h.0)
 
-big_endian_below : (a : ℕ) (ds : List ℕ) → All Byte ds → big_endian a ds < suc a * 256 ^ length ds
+big_endian_below : (a : ℕ) (ds : List ℕ) → AllByRecursion Byte ds → big_endian a ds < suc a * 256 ^ length ds
 big_endian_below a [] h = omega arith
 big_endian_below a (d ∷ ds) h =
     let p = 256 ^ length ds in
@@ -47,18 +47,18 @@ big_endian_below a (d ∷ ds) h =
     omega (arith, big_endian_below (a * 256 + d) ds h.1, most, mul_assoc (suc a) 256 p, ap (λ k. suc a * k) (pow-succ' 256 (length ds)))
 
 module _ {X : Type 0} (P : X → Type 0) where
-  pub all_take : (n : ℕ) (xs : List X) → All P xs → All P (take n xs)
+  pub all_take : (n : ℕ) (xs : List X) → AllByRecursion P xs → AllByRecursion P (take n xs)
   all_take zero xs h = tt
   all_take (suc n) [] h = tt
   all_take (suc n) (x ∷ xs) h = (h.0, all_take n xs h.1)
 
-  all_drop : (n : ℕ) (xs : List X) → All P xs → All P (drop n xs)
+  all_drop : (n : ℕ) (xs : List X) → AllByRecursion P xs → AllByRecursion P (drop n xs)
   all_drop zero xs h = h
   all_drop (suc n) [] h = tt
   all_drop (suc n) (x ∷ xs) h = all_drop n xs h.1
 
 -- the bytes of a field that is read
-field_at : (b : Bool) (bs : List ℕ) → cond b 4 8 ≤ length bs → All Byte bs → cond b (digits 4 (of_z w32 (cond b (narrow bs) (wide bs)))) (digits 8 (of_z w64 (cond b (narrow bs) (wide bs)))) ≡ take (cond b 4 8) bs
+field_at : (b : Bool) (bs : List ℕ) → cond b 4 8 ≤ length bs → AllByRecursion Byte bs → cond b (digits 4 (of_z w32 (cond b (narrow bs) (wide bs)))) (digits 8 (of_z w64 (cond b (narrow bs) (wide bs)))) ≡ take (cond b 4 8) bs
 field_at true bs l h =
     let four : length (take 4 bs) ≡ 4 = length-take-le 4 bs l in
     let low : big_endian 0 (take 4 bs) < 2 ^ 32 = omega (arith, big_endian_below 0 (take 4 bs) (all_take Byte 4 bs h), ap (λ n. 256 ^ n) four) in
@@ -74,7 +74,7 @@ module _ (kind : ℕ) where
   Written n m bs = (map_of (fields kind n m bs) ≡ m) × (packed kind (fields kind n m bs) ≡ bs)
 
   abbrev Sound : ℕ → List ℕ → Type 0
-  Sound m bs = (length bs ≡ width kind * ones m) × All Byte bs × (has_zero (values kind (ones m) bs) ≡ false)
+  Sound m bs = (length bs ≡ width kind * ones m) × AllByRecursion Byte bs × (has_zero (values kind (ones m) bs) ≡ false)
 
   written_next : (n m : ℕ) (bs : List ℕ) (b : Bool) → b ≡ eqb (m % 2) 0 → Sound m bs → ((ds : List ℕ) → Sound (m / 2) ds → Written n (m / 2) ds)
       → (let zs : List ℤ = cond b (pos 0 ∷ fields kind n (m / 2) bs) (value kind bs ∷ fields kind n (m / 2) (drop (width kind) bs)) in (map_of zs ≡ m) × (packed kind zs ≡ bs))
@@ -105,7 +105,7 @@ module _ (kind : ℕ) where
   written_fields (suc n) m bs h s = written_next n m bs _ refl s (λ ds t. written_fields n (m / 2) ds (div_below m 2 (2 ^ n) (omega arith) (omega (arith, pow-suc 2 n))) t)
 
 -- a record that is read
-pub body_back : (kind high low : ℕ) (rest : List ℕ) (o : Option ℕ) (c : Content) → Byte high → Byte low → All Byte rest → body kind (high * 256 + low) rest o ≡ Ok c → take c.size (kind ∷ high ∷ low ∷ rest) ≡ encode c.kind c.fields
+pub body_back : (kind high low : ℕ) (rest : List ℕ) (o : Option ℕ) (c : Content) → Byte high → Byte low → AllByRecursion Byte rest → body kind (high * 256 + low) rest o ≡ Ok c → take c.size (kind ∷ high ∷ low ∷ rest) ≡ encode c.kind c.fields
 body_back kind high low rest o c p q all h =
     let m = high * 256 + low in
     let size = width kind * ones m in
@@ -118,7 +118,7 @@ body_back kind high low rest o c p q all h =
     ∙ (λ i. kind ∷ sym (div-mul-add high 256 low q) i ∷ sym (mod-mul-add high 256 low q) i ∷ take size rest)
     ∙ (λ i. kind ∷ (sym w.0 i / 256) ∷ (sym w.0 i % 256) ∷ sym w.1 i))
 
-pub begins : (kinds : List Kind) (bs : List ℕ) (c : Content) → All Byte bs → read kinds bs ≡ Ok c → take c.size bs ≡ encode c.kind c.fields
+pub begins : (kinds : List Kind) (bs : List ℕ) (c : Content) → AllByRecursion Byte bs → read kinds bs ≡ Ok c → take c.size bs ≡ encode c.kind c.fields
 begins kinds [] c all h = let z : ◌≡◌ {A = ℕ} 0 1 = cc in absurd (omega arith)
 begins kinds (x ∷ []) c all h = let z : ◌≡◌ {A = ℕ} 0 1 = cc in absurd (omega arith)
 begins kinds (x ∷ y ∷ []) c all h = let z : ◌≡◌ {A = ℕ} 0 1 = cc in absurd (omega arith)

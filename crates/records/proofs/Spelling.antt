@@ -4,7 +4,7 @@ use borrow.Author.Gap.{read_sfits}
 use lib.Count.{ones}
 use Rattle.std.proofs.lemmas.List.{drop_at}
 use Rattle.std.proofs.lemmas.Bool.{ltb-false}
-use Rattle.std.specs.List.{AllByRecursion as All}
+use Rattle.std.specs.List.{AllByRecursion}
 use Rattle.records.specs.declared.Fault.{Fault}
 use Rattle.records.specs.declared.Kind.{Kind}
 use Rattle.records.specs.Bytes.{big_endian, is_narrow, width, value}
@@ -23,11 +23,11 @@ fits_at true false x y = record { sfits = omega arith }
 fits_at false true x y = read_sfits w32 x
 fits_at false false x y = read_sfits w64 y
 
-fields_fit : (kind n map : ℕ) (bs : List ℕ) → All (FitsKind kind) (fields kind n map bs)
+fields_fit : (kind n map : ℕ) (bs : List ℕ) → AllByRecursion (FitsKind kind) (fields kind n map bs)
 unfolding fields
 fields_fit kind zero map bs = tt
 fields_fit kind (suc n) map bs =
-    elim (eqb (map % 2) 0) as (λ b. All (FitsKind kind) (cond b (pos 0 ∷ fields kind n (map / 2) bs) (value kind bs ∷ fields kind n (map / 2) (drop (width kind) bs)))) [
+    elim (eqb (map % 2) 0) as (λ b. AllByRecursion (FitsKind kind) (cond b (pos 0 ∷ fields kind n (map / 2) bs) (value kind bs ∷ fields kind n (map / 2) (drop (width kind) bs)))) [
       | true ↦ (fits_at true (is_narrow kind) 0 0, fields_fit kind n (map / 2) bs)
       | false ↦ (fits_at (ltb (length bs) (width kind)) (is_narrow kind) (big_endian 0 (take 4 bs)) (big_endian 0 (take 8 bs)), fields_fit kind n (map / 2) (drop (width kind) bs))
     ]
@@ -38,7 +38,7 @@ pub record Own (kinds : List Kind) (c : Content) : Type 0 where
   pub counted : field_count kinds c.kind ≡ Some count
   pub long : length c.fields ≡ 16
   pub parts : c.fields ≡ take count c.fields ++ replicate (16 - count) (pos 0)
-  pub fit : All (FitsKind c.kind) c.fields
+  pub fit : AllByRecursion (FitsKind c.kind) c.fields
 
 body_own : (kinds : List Kind) (kind map : ℕ) (rest : List ℕ) (c : Content) → body kind map rest (field_count kinds kind) ≡ Ok c → Own kinds c
 body_own kinds kind map rest c h =
@@ -62,7 +62,7 @@ read_own kinds (x ∷ []) c h = let z : ◌≡◌ {A = ℕ} 0 1 = cc in absurd (
 read_own kinds (x ∷ y ∷ []) c h = let z : ◌≡◌ {A = ℕ} 0 1 = cc in absurd (omega arith)
 read_own kinds (kind ∷ high ∷ low ∷ rest) c h = body_own kinds kind (high * 256 + low) rest c h
 
-pub spelt : (kinds : List Kind) (bs : List ℕ) (c : Content) → All Byte bs → read kinds bs ≡ Ok c → Spelt kinds bs c
+pub spelt : (kinds : List Kind) (bs : List ℕ) (c : Content) → AllByRecursion Byte bs → read kinds bs ≡ Ok c → Spelt kinds bs c
 spelt kinds bs c all h =
     let own = read_own kinds bs c h in
     let zs = c.fields in

@@ -5,7 +5,7 @@ use Rattle.std.proofs.lemmas.Nat.{div-add-mod', div_below, div-mul-add, mod-mul-
 use Rattle.std.proofs.lemmas.List.{take_at, drop_at, length_push}
 use Rattle.std.proofs.lemmas.Int.{to_z-of_z}
 use Rattle.std.proofs.lemmas.Bool.{cond-true, cond-false, eq-eqb, ne_eqb, le-ltb}
-use Rattle.std.specs.List.{AllByRecursion as All}
+use Rattle.std.specs.List.{AllByRecursion}
 use Rattle.records.specs.Bytes.{big_endian, narrow, wide, is_narrow, width, value}
 use Rattle.records.specs.Read.{is_zero, has_zero, values, fields, body}
 use Rattle.records.specs.Write.{digits, field_bytes, map_of, packed, padded, FitsKind, ReadsBack}
@@ -105,7 +105,7 @@ module _ (kind : ℕ) where
       cond-false _ _ _ (ne_eqb ((1 + 2 * m) % 2) 0 (λ k. omega (arith, odd_bit m)))
       ∙ (λ i. value_back kind z t h i ∷ fields kind n (odd_half m i) (drop_back kind z t i)) ∙ ap (λ l. z ∷ l) rest
 
-  fields_back : (n : ℕ) (zs : List ℤ) → length zs ≤ n → All (FitsKind kind) zs → fields kind n (map_of zs) (packed kind zs) ≡ padded n zs
+  fields_back : (n : ℕ) (zs : List ℤ) → length zs ≤ n → AllByRecursion (FitsKind kind) zs → fields kind n (map_of zs) (packed kind zs) ≡ padded n zs
   unfolding fields padded
   fields_back zero [] l h = refl
   fields_back zero (z ∷ zs) l h = absurd (omega arith)
@@ -120,7 +120,7 @@ module _ (kind : ℕ) where
       ∙ (λ i. is_zero (value_back kind z t h i) || has_zero (values kind (ones m) (drop_back kind z t i)))
       ∙ (λ i. e i || rest i)
 
-  none_back : (zs : List ℤ) → All (FitsKind kind) zs → has_zero (values kind (ones (map_of zs)) (packed kind zs)) ≡ false
+  none_back : (zs : List ℤ) → AllByRecursion (FitsKind kind) zs → has_zero (values kind (ones (map_of zs)) (packed kind zs)) ≡ false
   unfolding ones
   none_back [] h = refl
   none_back (z ∷ zs) h = none_front (is_zero z) z (map_of zs) (packed kind zs) refl h.0 (none_back zs h.1)

@@ -2,7 +2,7 @@
 use Rattle.std.specs.Prelude.{◌≡◌, ℕ, zero, suc, ◌+◌, ◌*◌, ◌/◌, ◌%◌, ◌<◌, ◌≤◌, cond, List, [], ◌∷◌, ◌++◌, length, drop, ℤ, pos, Some, Ok, FitsSigned}
 use Rattle.std.specs.Int.{w32, w64}
 use Rattle.std.proofs.Common.{of_z}
-use Rattle.std.specs.List.{AllByRecursion as All}
+use Rattle.std.specs.List.{AllByRecursion}
 use Rattle.records.specs.declared.Kind.{Kind}
 use Rattle.records.specs.Bytes.{is_narrow}
 use Rattle.records.specs.Read.{field_count, is_zero, read, Content}
@@ -51,7 +51,7 @@ pub record Writable (kinds : List Kind) (kind : ℕ) (zs : List ℤ) : Type 0 wh
   pub counted : field_count kinds kind ≡ Some count
   pub few : length zs ≤ count
   pub mapped : length zs ≤ 16
-  pub fit : All (FitsKind kind) zs
+  pub fit : AllByRecursion (FitsKind kind) zs
 
 -- the bytes begin with the encoding of a record that says c
 pub record Spelt (kinds : List Kind) (bs : List ℕ) (c : Content) : Type 0 where
@@ -70,11 +70,11 @@ ReadsBack = (kinds : List Kind) (kind : ℕ) (zs : List ℤ) (rest : List ℕ) �
 
 -- writing gives back the bytes that were read
 abbrev pub WritesBack : Type 0
-WritesBack = (kinds : List Kind) (bs : List ℕ) (c : Content) → All Byte bs → read kinds bs ≡ Ok c → bs ≡ encode c.kind c.fields ++ drop c.size bs
+WritesBack = (kinds : List Kind) (bs : List ℕ) (c : Content) → AllByRecursion Byte bs → read kinds bs ≡ Ok c → bs ≡ encode c.kind c.fields ++ drop c.size bs
 
 -- a record is read exactly where its encoding stands
 abbrev pub Stands : Type 0
-Stands = (kinds : List Kind) (bs : List ℕ) (c : Content) → All Byte bs → (read kinds bs ≡ Ok c → Spelt kinds bs c) × (Spelt kinds bs c → read kinds bs ≡ Ok c)
+Stands = (kinds : List Kind) (bs : List ℕ) (c : Content) → AllByRecursion Byte bs → (read kinds bs ≡ Ok c → Spelt kinds bs c) × (Spelt kinds bs c → read kinds bs ≡ Ok c)
 
 -- no two records that differ, in kind or in a field, begin the same bytes, and they end at the same place
 abbrev pub Unique : Type 0

@@ -4,7 +4,7 @@ ghost use Rattle.numbers.specs.Searches.{Lowest};
 ghost use Rattle.numbers.specs.Sums.{Summed};
 ghost use Rattle.market.specs.View.{closed_of};
 ghost use Rattle.rules.specs.Clearings.{bought_by, sold_by_parent, sold_by_extra};
-ghost use Rattle.rules.specs.Clearings.{sold as soldOn};
+ghost use Rattle.rules.specs.Clearings.{sold as sold_on};
 ghost use Rattle.rules.specs.Broken.{Broken};
 ghost use Rattle.rules.specs.Scratch.{Filled, parts_in, prices_in};
 
@@ -55,7 +55,7 @@ fn sold_by_extras(m: &ClosedMarket, s: &[i32], w: usize, p: usize) -> i64
 
 fn sold(m: &ClosedMarket, s: &[i32], w: usize, p: usize) -> i64
     requires { (Filled s.now) × (p < 6) }
-    ensures { result ≡ soldOn (closed_of m.now) (parts_in s.now) w p }
+    ensures { result ≡ sold_on (closed_of m.now) (parts_in s.now) w p }
 {
     sold_by_parents(m, s, w, p) + sold_by_extras(m, s, w, p)
 }

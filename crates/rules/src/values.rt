@@ -3,9 +3,9 @@ ghost use Rattle.std.specs.Prelude.{◌≡◌, ◌<◌, length};
 ghost use Rattle.numbers.specs.Sums.{Summed, Within};
 ghost use Rattle.market.specs.View.{closed_of};
 ghost use Rattle.rules.specs.Clearings.{product_worth, buy_worth, parent_worth, extra_worth};
-ghost use Rattle.rules.specs.Clearings.{welfare as welfareOf};
+ghost use Rattle.rules.specs.Clearings.{welfare as welfare_of};
 ghost use Rattle.rules.specs.Prices.{product_payment, parent_payment, extra_payment};
-ghost use Rattle.rules.specs.Prices.{cost as costOf};
+ghost use Rattle.rules.specs.Prices.{cost as cost_of};
 ghost use Rattle.rules.specs.Scratch.{Filled, parts_in, prices_in};
 ghost use Rattle.rules.specs.Sizes.{Small};
 
@@ -64,7 +64,7 @@ fn extras_worth(m: &ClosedMarket, s: &[i32]) -> i64
 // What buys are worth, less what sells are worth.
 pub fn welfare(m: &ClosedMarket, s: &[i32]) -> i64
     requires { Filled s.now }
-    ensures is { result ≡ welfareOf (closed_of m.now) (parts_in s.now) }
+    ensures is { result ≡ welfare_of (closed_of m.now) (parts_in s.now) }
     ensures size { Within 5000000000000000 result }
 {
     buys_worth(m, s) - (parents_worth(m, s) + extras_worth(m, s))
@@ -114,7 +114,7 @@ fn extras_paid(m: &ClosedMarket, s: &[i32]) -> i64
 // What all sell orders are paid.
 pub fn cost(m: &ClosedMarket, s: &[i32]) -> i64
     requires { Filled s.now }
-    ensures is { result ≡ costOf (closed_of m.now) (parts_in s.now) (prices_in s.now) }
+    ensures is { result ≡ cost_of (closed_of m.now) (parts_in s.now) (prices_in s.now) }
     ensures size { Within 5000000000000000 result }
 {
     parents_paid(m, s) + extras_paid(m, s)

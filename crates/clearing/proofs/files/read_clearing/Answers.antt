@@ -1,7 +1,7 @@
 use Rattle.std.proofs.Common.{◌≡◌, ℕ, List, ◌++◌, length, take, drop, ℤ, None, sym, ap, ◌∙◌, subst, arith, rules}
 use Rattle.market.specs.View.{closed_of}
 use Rattle.std.proofs.lemmas.List.{take_at, drop_all, drop-append-le}
-use Rattle.std.specs.List.{AllByRecursion as All}
+use Rattle.std.specs.List.{AllByRecursion}
 use Rattle.std.proofs.ByRecursion.{All-from_get_or}
 use Rattle.records.specs.Write.{Byte}
 use Rattle.clearing.specs.Files.{Runs, Reads}
@@ -20,7 +20,7 @@ returns c =
     let front : take 448 (ns ++ drop 448 was) ≡ ns = take_at ns (drop 448 was) 448 n in
     let back : drop 448 (ns ++ drop 448 was) ≡ drop 448 was =
     drop-append-le 448 ns (drop 448 was) (omega arith) ∙ ap (λ (xs : List ℤ). xs ++ drop 448 was) (drop_all 448 ns (omega arith)) in
-    let all : All Byte file = All-from_get_or Byte file 0 (λ k h. search rules) in
+    let all : AllByRecursion Byte file = All-from_get_or Byte file 0 (λ k h. search rules) in
     let runs : Runs m file c.fill.result ns = subst (λ (f : List ℕ). Runs m f c.fill.result ns) opened.1 c.fill.ensures in
     record {
       short = λ h. absurd (omega (arith, long));

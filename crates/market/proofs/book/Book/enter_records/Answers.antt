@@ -1,5 +1,5 @@
 use Rattle.std.proofs.Common.{◌≡◌, ℕ, ◌≤◌, List, length, drop, Ok, Option, sym, ◌∙◌, subst, rules}
-use Rattle.std.specs.List.{AllByRecursion as All}
+use Rattle.std.specs.List.{AllByRecursion}
 use Rattle.std.proofs.ByRecursion.{All-from_get_or}
 use Rattle.records.specs.declared.Record.{Record}
 use Rattle.records.specs.Read.{content, read}
@@ -21,7 +21,7 @@ loop-given-preserved c =
     let q = place_of c.next.new.self in
     let r = content c.in-Some.given in
     let next = subst (λ (o : Option Record). Next (kinds_of was) (file_of was) p (Ok o) q) c.in-Some.is told.reads in
-    let bytes : All Byte file = All-from_get_or Byte file 0 (λ k h. search rules) in
+    let bytes : AllByRecursion Byte file = All-from_get_or Byte file 0 (λ k h. search rules) in
     let is : read kinds (drop p file) ≡ Ok r = sym (λ i. read (inv.1 i) (drop p (inv.0 i))) ∙ next.0 in (
       told.file ∙ inv.0,
       told.kinds ∙ inv.1,

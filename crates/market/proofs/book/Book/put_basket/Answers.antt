@@ -23,26 +23,26 @@ invariant_of-self c =
         b.few.3,
       );
       room = (
-          b.room.0,
-          b.room.1,
-          search rules,
-          b.room.3,
-        );
+        b.room.0,
+        b.room.1,
+        search rules,
+        b.room.3,
+      );
       spans = (
-            b.spans.0,
-            b.spans.1,
-          );
+        b.spans.0,
+        b.spans.1,
+      );
       asks = (
-              b.asks.0,
-              b.asks.1,
-            );
+        b.asks.0,
+        b.asks.1,
+      );
       offers = (
-                each_push no_basket c.args.basket _ _ is basket_ok true b.offers.0 c.requires.0,
-                each_push no_basket c.args.basket _ _ is (basket_absent (vec_items b.windows)) false b.offers.1 ad.there,
-                pairs_push no_basket c.args.basket _ _ is (breaks (vec_items b.windows)) b.offers.2 ad.keeps,
-              );
+        each_push no_basket c.args.basket _ _ is basket_ok true b.offers.0 c.requires.0,
+        each_push no_basket c.args.basket _ _ is (basket_absent (vec_items b.windows)) false b.offers.1 ad.there,
+        pairs_push no_basket c.args.basket _ _ is (breaks (vec_items b.windows)) b.offers.2 ad.keeps,
+      );
       adds = (
-                  b.adds.0,
-                  each_weaker no_extra (vec_items b.extras) (extra_absent (vec_items b.windows) bs) (extra_absent (vec_items b.windows) more) false (extra_stays_basket (vec_items b.windows) bs more c.args.basket is) b.adds.1,
-                );
+        b.adds.0,
+        each_weaker no_extra (vec_items b.extras) (extra_absent (vec_items b.windows) bs) (extra_absent (vec_items b.windows) more) false (extra_stays_basket (vec_items b.windows) bs more c.args.basket is) b.adds.1,
+      );
     }

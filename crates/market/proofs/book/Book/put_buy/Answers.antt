@@ -21,26 +21,26 @@ invariant_of-self c =
         b.few.3,
       );
       room = (
-          b.room.0,
-          search rules,
-          b.room.2,
-          b.room.3,
-        );
+        b.room.0,
+        search rules,
+        b.room.2,
+        b.room.3,
+      );
       spans = (
-            b.spans.0,
-            b.spans.1,
-          );
+        b.spans.0,
+        b.spans.1,
+      );
       asks = (
-              each_push no_buy c.args.buy _ _ is buy_ok true b.asks.0 c.requires.0,
-              each_push no_buy c.args.buy _ _ is (buy_absent (vec_items b.windows)) false b.asks.1 ad.there,
-            );
+        each_push no_buy c.args.buy _ _ is buy_ok true b.asks.0 c.requires.0,
+        each_push no_buy c.args.buy _ _ is (buy_absent (vec_items b.windows)) false b.asks.1 ad.there,
+      );
       offers = (
-                b.offers.0,
-                b.offers.1,
-                b.offers.2,
-              );
+        b.offers.0,
+        b.offers.1,
+        b.offers.2,
+      );
       adds = (
-                  b.adds.0,
-                  b.adds.1,
-                );
+        b.adds.0,
+        b.adds.1,
+      );
     }

@@ -28,26 +28,26 @@ invariant_of-self c =
         omega (arith, b.extras.ok.0, room),
       );
       room = (
-          b.room.0,
-          b.room.1,
-          b.room.2,
-          search rules,
-        );
+        b.room.0,
+        b.room.1,
+        b.room.2,
+        search rules,
+      );
       spans = (
-            b.spans.0,
-            b.spans.1,
-          );
+        b.spans.0,
+        b.spans.1,
+      );
       asks = (
-              b.asks.0,
-              b.asks.1,
-            );
+        b.asks.0,
+        b.asks.1,
+      );
       offers = (
-                b.offers.0,
-                b.offers.1,
-                b.offers.2,
-              );
+        b.offers.0,
+        b.offers.1,
+        b.offers.2,
+      );
       adds = (
-                  each_push no_extra c.args.extra _ _ is extra_ok true b.adds.0 c.requires.0,
-                  each_push no_extra c.args.extra _ _ is (extra_absent (vec_items b.windows) (vec_items b.baskets)) false b.adds.1 ad.there,
-                );
+        each_push no_extra c.args.extra _ _ is extra_ok true b.adds.0 c.requires.0,
+        each_push no_extra c.args.extra _ _ is (extra_absent (vec_items b.windows) (vec_items b.baskets)) false b.adds.1 ad.there,
+      );
     }

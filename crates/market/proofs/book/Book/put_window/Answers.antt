@@ -23,26 +23,26 @@ invariant_of-self c =
         b.few.3,
       );
       room = (
-          search rules,
-          b.room.1,
-          b.room.2,
-          b.room.3,
-        );
+        search rules,
+        b.room.1,
+        b.room.2,
+        b.room.3,
+      );
       spans = (
-            each_push no_window c.args.window _ _ is window_ok true b.spans.0 c.requires.0,
-            pairs_push no_window c.args.window _ _ is clash b.spans.1 ad.apart,
-          );
+        each_push no_window c.args.window _ _ is window_ok true b.spans.0 c.requires.0,
+        pairs_push no_window c.args.window _ _ is clash b.spans.1 ad.apart,
+      );
       asks = (
-              b.asks.0,
-              each_weaker no_buy (vec_items b.buys) (buy_absent ws) (buy_absent more) false (buy_stays ws more c.args.window is) b.asks.1,
-            );
+        b.asks.0,
+        each_weaker no_buy (vec_items b.buys) (buy_absent ws) (buy_absent more) false (buy_stays ws more c.args.window is) b.asks.1,
+      );
       offers = (
-                b.offers.0,
-                each_weaker no_basket (vec_items b.baskets) (basket_absent ws) (basket_absent more) false (basket_stays ws more c.args.window is) b.offers.1,
-                looped_stays ws more c.args.window is (vec_items b.baskets) b.offers.1 b.offers.2,
-              );
+        b.offers.0,
+        each_weaker no_basket (vec_items b.baskets) (basket_absent ws) (basket_absent more) false (basket_stays ws more c.args.window is) b.offers.1,
+        looped_stays ws more c.args.window is (vec_items b.baskets) b.offers.1 b.offers.2,
+      );
       adds = (
-                  b.adds.0,
-                  each_weaker no_extra (vec_items b.extras) (extra_absent ws (vec_items b.baskets)) (extra_absent more (vec_items b.baskets)) false (extra_stays ws more c.args.window is (vec_items b.baskets) b.offers.1) b.adds.1,
-                );
+        b.adds.0,
+        each_weaker no_extra (vec_items b.extras) (extra_absent ws (vec_items b.baskets)) (extra_absent more (vec_items b.baskets)) false (extra_stays ws more c.args.window is (vec_items b.baskets) b.offers.1) b.adds.1,
+      );
     }
