@@ -4,7 +4,6 @@
 set -euo pipefail
 cd "$(dirname "$0")/.."
 
-kit=$(dirname "$(dirname "$(rt doc)")")
 copy=$(mktemp -d)
 trap 'rm -rf "$copy"' EXIT
 
@@ -27,26 +26,25 @@ print(says)
 PYTHON
 }
 
-# Compiles the program `panel` of the copy with all that it is made of, from the sources.
+# Compiles the program `panel` of the copy with all that it is made of, from the sources, and runs it where it compiles.
 compile() {
-  local words=() name used
-  while IFS=: read -r name used; do
-    words+=(--lib "$name:$(echo $used | tr ' ' ,)=$kit/$name/src/lib.rt")
-  done <"$kit/libs.txt"
-  for name in $(sed -n 's/^console: //p' crates.txt) console; do
-    words+=(--lib "$name=$copy/crates/$name/src/lib.rt")
-  done
-  "$kit/bin/rattle-print-mir" "$copy/crates/panel/src/main.rt" --crate-name panel "${words[@]}" 2>&1 >/dev/null
+  (cd "$copy/crates/panel" && rt try 2>&1)
 }
 
-cp -r crates "$copy"
-compile || {
+fresh() {
+  rm -rf "$copy/crates"
+  mkdir "$copy/crates"
+  tar -C crates --exclude=out -c . | tar -C "$copy/crates" -x
+}
+
+cp crates.txt "$copy"
+fresh
+compile >/dev/null || {
   echo "misuse: the program does not compile as it is"
   exit 1
 }
 for misuse in misuse/*.edit; do
-  rm -rf "$copy/crates"
-  cp -r crates "$copy"
+  fresh
   says=$(edit "$misuse")
   if said=$(compile); then
     echo "$misuse: it compiles"
