@@ -1,5 +1,5 @@
 -- A sheet that is a copy means the same.
-use Rattle.std.proofs.Common.{◌≡◌, ℕ, ◌+◌, ◌<◌, ◌≤◌, true, false, cond, ltb, List, length, set, replicate, ℤ, pos, ◌≤ℤ◌, sym, ap, ◌∙◌, subst, inl, inr, arith, get_or-set_other, get_or-set_same, le-ltb, lt-ltb}
+use Rattle.std.proofs.Common.{◌≡◌, ℕ, ◌+◌, ◌<◌, ◌≤◌, true, false, cond, ltb, List, length, set, replicate, pos, ◌≤ℤ◌, sym, ap, ◌∙◌, subst, inl, inr, arith, get_or-set_other, get_or-set_same, le-ltb, lt-ltb}
 use mathlib.Core.Path.{fun_ext}
 use lib.ListN.{length-replicate, get_or-replicate}
 use lib.Signed.{≤ℤ_refl}

@@ -1,5 +1,5 @@
 -- Variables held at a value, over a table.
-use Rattle.std.specs.Prelude.{ℕ, ◌+◌, ◌-◌, ◌≤◌, true, false, cond, List, [], ◌∷◌, ◌++◌, length, take, ℤ, pos, ◌≤ℤ◌, Ok, Err, Result, ◌==◌, nat_le, nat_lt, slice_index_or, slice_set, unsigned_abs}
+use Rattle.std.specs.Prelude.{ℕ, ◌+◌, ◌-◌, true, false, cond, List, [], ◌∷◌, ◌++◌, length, take, ℤ, pos, ◌≤ℤ◌, Ok, Err, Result, ◌==◌, nat_le, nat_lt, slice_index_or, slice_set, unsigned_abs}
 use Rattle.std.specs.Int.Signed.{≤ℤ_refl}
 use Rattle.std.proofs.Common.{le-ltb}
 use Rattle.std.specs.List.{AllByRecursion}

@@ -1,5 +1,5 @@
 -- A sheet that keeps the limits and the whole marks below.
-use Rattle.std.specs.Prelude.{ℕ, ◌≤◌, true, false, cond, List, ℤ, pos, ◌≤ℤ◌, nat_lt, slice_index_or, refl}
+use Rattle.std.specs.Prelude.{ℕ, true, false, cond, List, pos, ◌≤ℤ◌, nat_lt, slice_index_or, refl}
 use Rattle.std.proofs.Common.{arith, le-ltb}
 use Rattle.std.specs.Int.Signed.{≤ℤ_refl}
 use Rattle.bound.specs.declared.sheet.Line.{Line}

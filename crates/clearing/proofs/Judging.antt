@@ -1,17 +1,15 @@
 -- What a file that is read through leaves for the judge.
-use Rattle.std.proofs.Common.{◌≡◌, ℕ, ◌+◌, ◌<◌, ◌≤◌, ◌⊎◌, List, length, get_or, take, drop, ℤ, pos, ◌≤ℤ◌, Ok, Err, Result, sym, refl, ap, ◌∙◌, subst, inl, inr, ⊎_elim, arith}
+use Rattle.std.proofs.Common.{◌≡◌, ℕ, ◌+◌, ◌<◌, ◌≤◌, ◌⊎◌, List, length, get_or, take, drop, ℤ, pos, Ok, Err, Result, sym, ap, subst, inl, ⊎_elim, arith}
 use Rattle.std.proofs.lemmas.Int.{ints}
 use Rattle.std.proofs.lemmas.Bool.{cases_lt}
-use Rattle.records.specs.declared.Fault.TheVariants.{TooLong}
 use Rattle.numbers.specs.Sums.{Within}
 use Rattle.market.specs.Market.{Market}
 use Rattle.market.specs.Lawful.{Lawful}
 use Rattle.rules.specs.Scratch.{Filled}
-use Rattle.clearing.specs.declared.faults.Fault.TheVariants.{Record, ScratchTooShort}
 use Rattle.clearing.specs.declared.faults.Refusal.{Refusal}
 use Rattle.clearing.specs.declared.worth.Worth.{Worth}
-use Rattle.clearing.specs.Files.{Reads, Outcome, refused}
-use Rattle.clearing.specs.Verdicts.{Told, Judged, refused_at0}
+use Rattle.clearing.specs.Files.{Reads, Outcome}
+use Rattle.clearing.specs.Verdicts.{Told, Judged}
 use Rattle.clearing.proofs.Numbers.{Limits, Priced, marked_limits}
 
 -- a file that is read through was not too long, and there was scratch enough

@@ -1,14 +1,11 @@
 -- One more mark of a file, and the numbers that it leaves.
-use Rattle.std.proofs.Common.{◌≡◌, ℕ, zero, suc, ◌+◌, ◌-◌, ◌/◌, ◌%◌, ◌<◌, ◌≤◌, Bool, true, false, cond, ◌&&◌, ltb, List, [], ◌∷◌, ◌++◌, length, drop, set, replicate, ℤ, pos, negsuc, Some, None, Ok, Option, sym, refl, ap, ◌∙◌, subst, ⊎_elim, add-one, arith}
-use Rattle.std.proofs.lemmas.Int.{ints}
+use Rattle.std.proofs.Common.{◌≡◌, ℕ, zero, suc, ◌+◌, ◌<◌, List, [], ◌∷◌, ◌++◌, length, drop, set, replicate, ℤ, Some, None, Ok, Option, sym, refl, ap, ◌∙◌, add-one, arith}
 use Rattle.std.proofs.lemmas.List.Sums.{fold_push}
 use Rattle.records.specs.Read.{Content, read}
 use Rattle.market.specs.Market.{Market}
-use Rattle.market.specs.Lawful.{Lawful}
 use Rattle.clearing.specs.declared.marks.Mark.{Mark}
-use Rattle.clearing.specs.declared.marks.Mark.TheVariants.{Parts, Price}
 use Rattle.clearing.specs.Files.{kinds, fault_of, Run}
-use Rattle.clearing.specs.Marks.{mark_of, rises, in_limits, is_named, is_order, is_line, fits, place_of, amount_of, marked}
+use Rattle.clearing.specs.Marks.{mark_of, place_of, amount_of, marked}
 
 -- one more of a row of equal numbers
 pub filled_more : (n : ℕ) (d : List ℤ) (z : ℤ) → n < length d → set (replicate n z ++ drop n d) n z ≡ replicate (n + 1) z ++ drop (n + 1) d

@@ -1,17 +1,13 @@
 -- The numbers that marks in order leave are a clearing's parts and a price list.
-use Rattle.std.proofs.Common.{◌≡◌, ℕ, ◌+◌, ◌-◌, ◌*◌, ◌/◌, ◌%◌, ◌<◌, ◌≤◌, Bool, true, false, cond, not, ◌&&◌, ltb, ◌⊎◌, List, [], ◌∷◌, ◌++◌, length, get_or, set, replicate, ℤ, pos, negsuc, ◌*ℤ◌, ◌≤ℤ◌, Some, None, fold, Option, sym, refl, ap, ◌∙◌, subst, inl, inr, ⊎_elim, arith, length-set}
+use Rattle.std.proofs.Common.{◌≡◌, ℕ, ◌+◌, ◌-◌, ◌/◌, ◌<◌, ◌≤◌, Bool, true, false, cond, ◌&&◌, ltb, ◌⊎◌, List, [], ◌∷◌, length, get_or, set, ℤ, pos, negsuc, ◌≤ℤ◌, Some, None, fold, Option, sym, refl, ap, ◌∙◌, subst, inl, inr, ⊎_elim, arith, length-set}
 use lib.Signed.{le_z}
 use Rattle.std.proofs.lemmas.List.{get_or-set_same, get_or-set_other}
 use Rattle.std.proofs.lemmas.Simd.{length-replicate, get_or-replicate}
 use Rattle.std.proofs.lemmas.Int.{ints}
-use Rattle.std.proofs.lemmas.Bool.{cases_eq, cases_lt, cases_Bool, lt-ltb, le-ltb, ltb-true, and_parts}
-use Rattle.market.specs.declared.entries.Service.{Service}
-use Rattle.market.specs.declared.entries.Service.TheVariants.{Response, Balancing, Quick, Slow}
-use Rattle.market.specs.Market.{Market, window_at}
+use Rattle.std.proofs.lemmas.Bool.{cases_eq, cases_lt, le-ltb, ltb-true, and_parts}
+use Rattle.market.specs.Market.{Market}
 use Rattle.market.specs.Lawful.{Lawful}
-use Rattle.market.specs.Services.{terms}
-use Rattle.rules.specs.Clearings.{Parts as Share, Clearing}
-use Rattle.rules.specs.Prices.{PriceList, price_of}
+use Rattle.rules.specs.Clearings.{Parts as Share}
 use Rattle.clearing.specs.declared.faults.Fault.TheVariants.{NotRising, OutsideLimits, Absent}
 use Rattle.clearing.specs.declared.marks.Mark.{Mark}
 use Rattle.clearing.specs.declared.marks.Mark.TheVariants.{Parts, Price}

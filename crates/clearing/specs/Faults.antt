@@ -1,5 +1,4 @@
 -- What each refusal is called: its number, and the layer that it belongs to.
-use Rattle.std.specs.Prelude.{ℕ}
 use Rattle.records.specs.Faults as records
 use Rattle.records.specs.Faults.{Code}
 use Rattle.records.specs.declared.Refusal as below

@@ -1,6 +1,5 @@
 -- What stands after one more call; that a past leads to one standing; and the two laws, from the past.
-use Rattle.std.proofs.Common.{◌≡◌, ℕ, suc, ◌+◌, ◌<◌, ◌≤◌, Bool, true, false, cond, ◌⊎◌, List, [], ◌∷◌, ◌++◌, length, get_or, ℤ, pos, ◌+ℤ◌, ◌-ℤ◌, ◌*ℤ◌, ◌≤ℤ◌, Some, None, Option, sym, refl, ap, ◌∙◌, subst, inl, inr, ⊎_elim, arith}
-use lib.Signed.{lt_z}
+use Rattle.std.proofs.Common.{◌≡◌, ℕ, suc, ◌≤◌, true, false, ◌⊎◌, List, [], ◌∷◌, ◌++◌, length, ℤ, Some, None, Option, sym, refl, ap, ◌∙◌, subst, ⊎_elim, arith}
 use Rattle.std.proofs.lemmas.Int.{ints}
 use Rattle.std.proofs.lemmas.List.{length_push}
 use Rattle.std.proofs.lemmas.Bool.{cond_both}
@@ -8,11 +7,11 @@ use Rattle.market.specs.Market.{Market}
 use Rattle.console.specs.declared.call.Call.{Call}
 use Rattle.console.specs.declared.call.Call.TheVariants.{Clearing, Tree, Price, Panel}
 use Rattle.console.specs.declared.held.Held.{Held}
-use Rattle.console.specs.Best.{Best, Least, Ranks}
+use Rattle.console.specs.Best.{Least, Ranks}
 use Rattle.console.specs.Clears.{Clears}
 use Rattle.console.specs.Past.{Offers, limit, price_limit, no_call, Came}
 use Rattle.console.specs.Standing.{Standing, idle, better}
-use Rattle.console.specs.Steps.{lower, lowered, taken, bounded, priced}
+use Rattle.console.specs.Steps.{lowered, taken, bounded, priced}
 use Rattle.console.proofs.Best.{best_none, best_stays, best_new, best_one, least_none, least_stays, least_more, least_one}
 
 pub ranks : Ranks better

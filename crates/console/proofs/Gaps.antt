@@ -1,5 +1,5 @@
 -- That the two gaps are never below 0, and their sums as the code makes them.
-use Rattle.std.proofs.Common.{◌≡◌, ℕ, Bool, true, T, ℤ, pos, negsuc, ◌+ℤ◌, ◌-ℤ◌, ◌*ℤ◌, neg_ℤ, nat_abs, ◌≤ℤ◌, Some, sym, refl, ap, ◌∙◌, subst, arith, w64, Fits, SFits, to_z, of_z}
+use Rattle.std.proofs.Common.{◌≡◌, true, T, ℤ, pos, negsuc, ◌+ℤ◌, ◌*ℤ◌, neg_ℤ, nat_abs, ◌≤ℤ◌, Some, arith, w64, Fits, SFits, to_z, of_z}
 use mathlib.Core.Bool.{Bool-set}
 use mathlib.Core.Logic.{∥∥₁_elim}
 use lib.Signed.{le_z, non_neg}

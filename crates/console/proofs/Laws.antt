@@ -1,5 +1,5 @@
 -- That a clearing file offers one clearing, and that the bounds that are kept cover every rival.
-use Rattle.std.proofs.Common.{◌≡◌, ℕ, ◌<◌, ◌≤◌, Bool, true, false, cond, ◌&&◌, List, length, get_or, take, ℤ, pos, ◌+ℤ◌, ◌-ℤ◌, ◌*ℤ◌, neg_ℤ, ◌≤ℤ◌, Some, None, Ok, Err, Option, Result, sym, refl, ap, ◌∙◌, subst, ⊎_elim, arith}
+use Rattle.std.proofs.Common.{◌≡◌, ℕ, ◌<◌, ◌≤◌, true, List, length, take, ℤ, pos, ◌+ℤ◌, ◌-ℤ◌, ◌*ℤ◌, neg_ℤ, ◌≤ℤ◌, Some, None, Ok, Err, Option, Result, sym, ap, ◌∙◌, subst, ⊎_elim, arith}
 use lib.Signed.{le_z, lt_z}
 use Rattle.std.proofs.lemmas.Int.{ints}
 use Rattle.std.proofs.lemmas.Bool.{cond_both, and_from, cases_lt}
@@ -17,8 +17,8 @@ use Rattle.clearing.proofs.Single.{runs_one}
 use Rattle.auction.specs.Theorems.{BoundsWelfare, BoundsSaving}
 use Rattle.console.specs.declared.held.Held.{Held}
 use Rattle.console.specs.Clears.{Kept, Clears}
-use Rattle.console.specs.Law.{Rival, PriceRival, covers, CoversRivals, CoversPrices, sized}
-use Rattle.console.specs.Standing.{parts_of, prices_of}
+use Rattle.console.specs.Law.{covers, CoversRivals, CoversPrices, sized}
+use Rattle.console.specs.Standing.{parts_of}
 use Rattle.console.specs.Steps.{lower}
 
 same_held : (g h : Held) → g.numbers ≡ h.numbers → g.welfare ≡ h.welfare → g.cost ≡ h.cost → g ≡ h

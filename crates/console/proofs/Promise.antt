@@ -1,5 +1,5 @@
 -- The two laws of the gaps, from the past alone.
-use Rattle.std.proofs.Common.{◌≡◌, ℕ, zero, suc, ◌*◌, ◌<◌, ◌≤◌, Bool, true, List, [], length, get_or, ℤ, pos, negsuc, ◌+ℤ◌, ◌-ℤ◌, ◌*ℤ◌, neg_ℤ, ◌≤ℤ◌, is_some, Some, None, Ok, Err, Option, Result, sym, refl, ap, ◌∙◌, subst, arith}
+use Rattle.std.proofs.Common.{◌≡◌, ℕ, zero, suc, ◌*◌, ◌<◌, Bool, true, List, get_or, ℤ, pos, negsuc, ◌+ℤ◌, ◌-ℤ◌, ◌*ℤ◌, neg_ℤ, ◌≤ℤ◌, is_some, Some, None, Ok, Err, Option, Result, sym, refl, ap, ◌∙◌, subst, arith}
 use lib.Signed.{le_z}
 use Rattle.std.proofs.lemmas.Int.{ints}
 use Rattle.bound.specs.declared.faults.Refusal as bounds
@@ -21,7 +21,7 @@ use Rattle.console.specs.declared.call.Call.TheVariants.{Clearing, Tree, Price, 
 use Rattle.console.specs.declared.held.Held.{Held}
 use Rattle.console.specs.Best.{OfferAt}
 use Rattle.numbers.proofs.Integers.{mul_assoc, mul_add}
-use Rattle.console.specs.Law.{Rival, PriceRival, GapCovers, PriceGapCovers, covers, CoversRivals, CoversPrices}
+use Rattle.console.specs.Law.{GapCovers, PriceGapCovers, covers, CoversRivals, CoversPrices}
 use Rattle.console.specs.Panel.{up, in_pence, ShownNotBelow}
 use Rattle.console.specs.Past.{Offers, limit, price_limit, no_call, Came}
 use Rattle.console.specs.Standing.{Standing, parts_of, idle, gap, price_gap}

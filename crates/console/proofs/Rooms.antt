@@ -1,5 +1,5 @@
 -- A buffer or a scratch of which a part is lent.
-use Rattle.std.proofs.Common.{◌≡◌, ℕ, ◌-◌, ◌<◌, ◌≤◌, min, cond, ltb, List, ◌++◌, length, take, drop, sym, refl, ap, ◌∙◌, subst, arith, length-take}
+use Rattle.std.proofs.Common.{◌≡◌, ℕ, ◌-◌, ◌<◌, min, ltb, List, ◌++◌, length, take, drop, sym, ap, ◌∙◌, arith, length-take}
 use borrow.Rule.Slice.PartMut.{post_of}
 use Rattle.std.proofs.lemmas.List.{take-append-drop}
 use Rattle.std.proofs.lemmas.Bool.{lt-ltb, cond-true}

@@ -1,5 +1,5 @@
 -- A call, made where a standing is given, has one answer and leaves one standing.
-use Rattle.std.proofs.Common.{◌≡◌, ℕ, ◌<◌, ◌≤◌, cond, eqb, ◌⊎◌, List, length, take, ℤ, Ok, Err, Result, sym, refl, ap, ◌∙◌, subst, ⊎_elim, arith}
+use Rattle.std.proofs.Common.{◌≡◌, ℕ, ◌<◌, ◌≤◌, cond, eqb, List, length, take, ℤ, Ok, Err, Result, sym, refl, ap, ◌∙◌, subst, ⊎_elim, arith}
 use Rattle.std.proofs.lemmas.Bool.{cases_lt, cases_order}
 use Rattle.market.specs.Market.{Market}
 use Rattle.rules.specs.declared.faults.Rule.{Rule}
@@ -21,7 +21,7 @@ use Rattle.console.specs.declared.call.Answer.{Answer}
 use Rattle.console.specs.declared.call.Answer.TheVariants as an
 use Rattle.console.specs.declared.call.Call.{Call}
 use Rattle.console.specs.declared.call.Call.TheVariants.{Clearing, Tree, Price, Panel}
-use Rattle.console.specs.Played.{ClearedIn, Answers}
+use Rattle.console.specs.Played.{Answers}
 use Rattle.console.specs.Standing.{Standing}
 use Rattle.console.specs.Steps.{after_worth, told_worth}
 

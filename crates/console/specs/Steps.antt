@@ -1,5 +1,5 @@
 -- One call: what it is answered, and what stands after it.
-use Rattle.std.specs.Prelude.{◌≡◌, ℕ, cond, List, length, take, ℤ, Some, None, Ok, Err, Option, Result, int_lt}
+use Rattle.std.specs.Prelude.{◌≡◌, ℕ, cond, List, take, ℤ, Some, None, Ok, Err, Option, Result, int_lt}
 use Rattle.bound.specs.declared.faults.Refusal as bounds
 use Rattle.clearing.specs.declared.faults.Refusal as clearings
 use Rattle.clearing.specs.declared.worth.Worth.{Worth}

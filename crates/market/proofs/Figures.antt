@@ -1,5 +1,5 @@
 -- The bytes of the small market make that market.
-use Rattle.std.proofs.Common.{◌≡◌, ℕ, zero, suc, ◌<◌, false, List, [], ◌∷◌, length, take, pos, refl, arith}
+use Rattle.std.proofs.Common.{◌≡◌, ℕ, zero, suc, ◌<◌, false, List, [], ◌∷◌, take, pos, refl, arith}
 use Rattle.numbers.specs.Searches.{any_to}
 use Rattle.records.specs.Write.{digits}
 use Rattle.market.specs.declared.entries.Entry.{Entry}

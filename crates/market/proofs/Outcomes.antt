@@ -1,5 +1,5 @@
 -- Entering a file has one outcome, and a file of entries that keep the lines is accepted.
-use Rattle.std.proofs.Common.{◌≡◌, ℕ, ◌+◌, ◌<◌, ◌≤◌, cond, eqb, ◌⊎◌, List, [], ◌∷◌, ◌++◌, length, take, drop, Ok, Err, Result, sym, refl, ap, ◌∙◌, subst, ⊎_elim, arith, take-append-drop}
+use Rattle.std.proofs.Common.{◌≡◌, ℕ, ◌<◌, ◌≤◌, cond, eqb, List, [], ◌∷◌, ◌++◌, length, take, drop, Ok, Err, Result, sym, refl, ap, ◌∙◌, subst, ⊎_elim, arith, take-append-drop}
 use lib.Seq.{take-length}
 use Rattle.std.proofs.lemmas.List.{append_assoc, length-take-le, drop_all}
 use Rattle.std.proofs.lemmas.Bool.{cases_order, cases_lt}

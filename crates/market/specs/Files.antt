@@ -1,5 +1,5 @@
 -- A market file: what its bytes are, and what it does to a market.
-use Rattle.std.specs.Prelude.{◌≡◌, ℕ, ◌+◌, ◌<◌, ◌≤◌, cond, List, [], ◌∷◌, ◌++◌, map, length, take, drop, ℤ, pos, Ok, Err, Result}
+use Rattle.std.specs.Prelude.{◌≡◌, ℕ, ◌<◌, ◌≤◌, cond, List, [], ◌∷◌, ◌++◌, map, length, take, drop, ℤ, pos, Ok, Err, Result}
 use Rattle.records.specs.declared.Fault.{Fault as RecordFault}
 use Rattle.records.specs.declared.Fault.TheVariants.{TooLong}
 use Rattle.records.specs.declared.Kind.{Kind}

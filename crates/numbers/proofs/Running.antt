@@ -1,7 +1,7 @@
 -- A loop that sums terms in 64 bits, once for every sum.
-use Rattle.std.proofs.Common.{◌≡◌, ℕ, ◌+◌, ◌*◌, ◌^◌, ◌<◌, ◌≤◌, ℤ, pos, ◌+ℤ◌, neg_ℤ, ◌≤ℤ◌, sym, refl, ap, ◌∙◌, mul-le-mul_right, add-mul, one-mul, arith, w64, SFits, to_z, of_z}
-use Rattle.std.proofs.lemmas.Int.{ints, to_z-of_z}
-use Rattle.numbers.specs.Sums.{sum_to, Within, Summed, Term}
+use Rattle.std.proofs.Common.{◌≡◌, ℕ, ◌+◌, ◌*◌, ◌^◌, ◌<◌, ◌≤◌, ℤ, pos, ◌+ℤ◌, sym, mul-le-mul_right, add-mul, arith, w64, to_z, of_z}
+use Rattle.std.proofs.lemmas.Int.{ints}
+use Rattle.numbers.specs.Sums.{Summed, Term}
 use Rattle.numbers.proofs.Sums.{sum_start, sum_more}
 
 pub summed_none : (f : ℕ → ℤ) (size : ℕ) → Summed f size 0 (pos 0)

@@ -1,5 +1,5 @@
 -- What an order's own numbers tell of the price rules.
-use Rattle.std.proofs.Common.{◌≡◌, ℕ, ◌+◌, ◌<◌, Bool, false, ◌⊎◌, ℤ, pos, ◌<ℤ◌, Decides, sym, ap, ◌∙◌, subst, inl, inr, ⊎_elim}
+use Rattle.std.proofs.Common.{◌≡◌, ℕ, ◌+◌, ◌<◌, Bool, false, ℤ, pos, ◌<ℤ◌, Decides, sym, ap, ◌∙◌, subst, inl, inr, ⊎_elim}
 use lib.Signed.{mag}
 use Rattle.std.proofs.lemmas.Bool.Decides.{Decides-like}
 use Rattle.numbers.specs.Sums.{Within}

@@ -1,4 +1,4 @@
-use Rattle.std.proofs.Common.{◌≡◌, ◌++◌, length, drop, replicate, pos}
+use Rattle.std.proofs.Common.{◌≡◌, ◌++◌, drop, replicate, pos}
 use Rattle.clearing.proofs.files.clear.Given as goal
 
 -- the first ones are 0, the others as they were

@@ -1,12 +1,11 @@
-use Rattle.std.proofs.Common.{◌≡◌, ℕ, ◌≤◌, List, [], ◌∷◌, ◌++◌, length, drop, set, ℤ, Some, None, Ok, Option, sym, refl, ap, ◌∙◌, subst, arith, rules}
+use Rattle.std.proofs.Common.{◌≡◌, ℕ, List, [], ◌∷◌, ◌++◌, length, drop, set, ℤ, Some, None, Ok, Option, sym, ap, ◌∙◌, subst, arith, rules}
 use Rattle.market.specs.View.{closed_of}
 use Rattle.records.specs.declared.Kind.{Kind}
 use Rattle.records.specs.declared.Record.{Record}
 use Rattle.records.specs.Read.{read, content}
 use Rattle.records.specs.Readers.{file_of, kinds_of, place_of, Next}
-use Rattle.clearing.specs.declared.marks.Mark.{Mark}
-use Rattle.clearing.specs.Files.{kinds, fault_of, Run}
-use Rattle.clearing.specs.Marks.{mark_of, marked, place_of as index_of, amount_of}
+use Rattle.clearing.specs.Files.{fault_of, Run}
+use Rattle.clearing.specs.Marks.{mark_of, place_of as index_of, amount_of}
 use Rattle.clearing.proofs.Marking.{run_more, marked_more}
 use Rattle.clearing.proofs.files.fill.Goals as goal
 

@@ -1,10 +1,8 @@
-use Rattle.std.proofs.Common.{◌≡◌, ℕ, List, take, ℤ, sym, refl, ◌∙◌, inr, arith, w64, to_z, of_z, rules}
-use Rattle.std.proofs.lemmas.Int.{ints}
+use Rattle.std.proofs.Common.{◌≡◌, ℕ, List, take, ℤ, refl, ◌∙◌, inr, w64, to_z, of_z, rules}
 use Rattle.market.specs.Market.{Market}
 use Rattle.market.specs.Lawful.{Lawful}
 use Rattle.market.specs.View.{closed_of}
 use Rattle.market.proofs.Books.{closed_lawful}
-use Rattle.rules.specs.Scratch.{Filled}
 use Rattle.clearing.proofs.Judging.{Through, through, reads_limits, filled, judged}
 use Rattle.clearing.proofs.Lists.{is_clearing, is_price_list}
 use Rattle.clearing.proofs.Numbers.{Limits}

@@ -1,4 +1,4 @@
-use Rattle.std.proofs.Common.{◌≡◌, sym, refl, ap, ◌∙◌, subst}
+use Rattle.std.proofs.Common.{ap, ◌∙◌}
 use Rattle.console.specs.Panel.{panel_answer}
 use Rattle.console.specs.View.{standing}
 use Rattle.console.proofs.Rooms.{part_length, panel_short}

@@ -1,8 +1,8 @@
-use Rattle.std.proofs.Common.{◌≡◌, ℕ, ◌+◌, ◌<◌, ◌≤◌, List, [], length, get_or, take, vec_items, vec_len, sym, refl, ap, ◌∙◌, subst, arith, length-take, Bor}
+use Rattle.std.proofs.Common.{◌≡◌, ℕ, ◌+◌, List, [], length, take, vec_items, sym, ap, ◌∙◌, subst, arith, length-take, Bor}
 use Rattle.std.proofs.lemmas.List.{take_all}
 use Rattle.bound.proofs.Whole.{every_pile}
 use Rattle.market.specs.Files.{AfterFiles}
-use Rattle.market.specs.Market.{Market, empty}
+use Rattle.market.specs.Market.{empty}
 use Rattle.market.specs.View.{market_of}
 use Rattle.market.proofs.Books.{book_lawful}
 use Rattle.console.specs.Past.{no_call, Came}

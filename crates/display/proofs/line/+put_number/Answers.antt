@@ -1,5 +1,5 @@
-use Rattle.std.proofs.Common.{length, ap, arith}
-use Rattle.std.proofs.lemmas.Fmt.{decimal_digit, decimal_nonempty}
+use Rattle.std.proofs.Common.{arith}
+use Rattle.std.proofs.lemmas.Fmt.{decimal_nonempty}
 use Rattle.display.proofs.Pieces.{put_digit, put_step, length_step}
 use Rattle.display.proofs.line.+put_number.Goals as goal
 

@@ -1,4 +1,4 @@
-use Rattle.std.proofs.Common.{◌≡◌, ◌≤◌, length, codes, arith}
+use Rattle.std.proofs.Common.{◌≤◌, length, codes, arith}
 use Rattle.display.specs.Line.{shown}
 use Rattle.display.proofs.Pieces.{put_five, line_shown}
 use Rattle.display.proofs.line.write_line.Goals as goal

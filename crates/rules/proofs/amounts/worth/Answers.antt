@@ -1,4 +1,4 @@
-use Rattle.std.proofs.Common.{◌*◌, ℤ, pos, ◌*ℤ◌, arith, w32, w64, to_z, of_z}
+use Rattle.std.proofs.Common.{◌*◌, pos, ◌*ℤ◌, arith, w32, w64, to_z, of_z}
 use Rattle.std.proofs.lemmas.Int.{ints}
 use Rattle.numbers.proofs.Products.{Multiplied, multiplied}
 use Rattle.rules.proofs.amounts.worth.Goals as goal

@@ -1,4 +1,4 @@
-use Rattle.std.proofs.Common.{◌≡◌, true, take, ℤ, pos, sym, refl, ap, ◌∙◌, subst, arith, w64, to_z, of_z, rules}
+use Rattle.std.proofs.Common.{◌≡◌, true, take, ℤ, pos, sym, refl, subst, w64, to_z, of_z, rules}
 use lib.Signed.{le_z}
 use Rattle.market.specs.View.{closed_of}
 use Rattle.market.proofs.Books.{closed_lawful}

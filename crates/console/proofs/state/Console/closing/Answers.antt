@@ -1,4 +1,4 @@
-use Rattle.std.proofs.Common.{◌≡◌, ℕ, ◌<◌, true, pos, sym, refl, ap, ◌∙◌, subst}
+use Rattle.std.proofs.Common.{◌≡◌, true, pos, sym, refl, subst}
 use lib.Signed.{le_z}
 use Rattle.market.specs.View.{closed_of}
 use Rattle.console.specs.declared.held.Held.{Held}

@@ -1,4 +1,4 @@
-use Rattle.std.proofs.Common.{◌≡◌, ℤ, pos, ◌+ℤ◌, ◌*ℤ◌, ◌≤ℤ◌, Option, subst, arith, w64, SFits, rules}
+use Rattle.std.proofs.Common.{ℤ, pos, ◌≤ℤ◌, Option, subst, arith, w64, SFits, rules}
 use Rattle.std.proofs.lemmas.Int.{to_z-of_z, ints}
 use Rattle.market.specs.View.{closed_of}
 use Rattle.console.specs.Law.{CoversPrices}

@@ -1,4 +1,4 @@
-use Rattle.std.proofs.Common.{◌≡◌, ℤ, ◌≤ℤ◌, Option, subst, w64, SFits, rules}
+use Rattle.std.proofs.Common.{ℤ, ◌≤ℤ◌, Option, subst, w64, SFits, rules}
 use Rattle.std.proofs.lemmas.Int.{to_z-of_z}
 use Rattle.market.specs.View.{closed_of}
 use Rattle.console.specs.Law.{CoversRivals}

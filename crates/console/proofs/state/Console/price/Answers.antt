@@ -1,4 +1,4 @@
-use Rattle.std.proofs.Common.{◌≡◌, ℤ, Some, Option, sym, ap, ◌∙◌, w64, to_z, of_z, rules}
+use Rattle.std.proofs.Common.{◌≡◌, ℤ, Some, Option, ap, ◌∙◌, w64, to_z, of_z, rules}
 use Rattle.market.specs.View.{closed_of}
 use Rattle.console.specs.Steps.{lower}
 use Rattle.console.proofs.Laws.{prices_lower}

@@ -1,5 +1,3 @@
-use Rattle.std.proofs.Common.{◌≡◌, is_some, rules}
-use Rattle.console.specs.Standing.{gap}
 use Rattle.console.specs.View.{standing}
 use Rattle.console.proofs.Promise.{gap_covered, price_gap_covered, shown_not_below, gap_there}
 use Rattle.console.proofs.state.Console.stands.Goals as goal
