@@ -30,7 +30,7 @@ CHOSEN = {
     "no-weights": "without_weights",
     "no_extra": "no_other_extra",
     "node-step": "node_step_lem",
-    "no-window": "no_window_lem",
+    "no-window": "no_other_window",
     "non-neg": "non_neg_lem",
     "on-lines": "on_lines_lem",
     "sell-on": "sell_on_lem",

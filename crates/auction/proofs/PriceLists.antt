@@ -57,7 +57,7 @@ module _ (m : Market) where
   from_list : (D : ℕ) (Y : ℕ → ℤ) → PriceList m D Y → (w p : ℕ) → w < 32 → p < 6
       → (t : Bool) → ltb w (length m.windows) ≡ t → Limits D Y w p (window_at m w).service (t && ltb p (terms (window_at m w).service).products)
   from_list D Y list w p h k true e = service_limits D Y list w p k (ltb-true w _ e) (window_at m w).service refl
-  from_list D Y list w p h k false e = let z = list.no_window_lem w p (ltb-false w _ e) h k in (omega (arith, ints), omega (arith, ints))
+  from_list D Y list w p h k false e = let z = list.no_other_window w p (ltb-false w _ e) h k in (omega (arith, ints), omega (arith, ints))
 
   -- a Reserve service has two products, and prices from 0
   reserve_two : (s : Service) → (s ≡ Response → ⊥) → ((terms s).products ≡ 2) × ((terms s).floor ≡ pos 0)
@@ -81,7 +81,7 @@ module _ (m : Market) where
         no_product = λ w p h d k n.
             let r = reserve_two (window_at m w).service d in
             let z = subst (Limits D Y w p (window_at m w).service) (le-ltb p _ (omega arith)) (entered w p n h) in omega (arith, ints);
-        no_window_lem = λ w p h k n.
+        no_other_window = λ w p h k n.
             let z = subst (Limits D Y w p (window_at m w).service) (and_left _ (ltb p (terms (window_at m w).service).products) (le-ltb w _ h)) (lim w p k n) in omega (arith, ints);
       }
 

@@ -95,7 +95,7 @@ is_price_list m good ns k = record {
       let f : (terms (window_at m w).service).products ≡ 2 = (two_products (window_at m w).service s).0 in
       absurd (omega (arith, o.product)))
       (k.prices (6 * w + p) (omega (arith, good.few_windows)));
-  no_window_lem = λ w p h l q.
+  no_other_window = λ w p h l q.
       let z = get_or ns (256 + (6 * w + p)) (pos 0) in
       ⊎_elim
       (λ (e : z ≡ pos 0). e)

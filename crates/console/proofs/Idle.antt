@@ -111,7 +111,7 @@ module _ (m : Market) where
     response = λ w p h s l. (omega (arith, ints), omega (arith, ints));
     reserve = λ w p h s l. (omega (arith, ints), omega (arith, ints));
     no_product = λ w p h s l k. refl;
-    no_window_lem = λ w p h l k. refl;
+    no_other_window = λ w p h l k. refl;
   }
 
   no_welfare : pos 0 ≡ welfare m nil

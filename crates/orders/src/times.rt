@@ -2,7 +2,6 @@
 ghost use Rattle.std.specs.Prelude.{◌≡◌, ◌+◌, ◌*◌, ◌%◌, ◌<◌};
 
 // The hour and the minute at which a half hour of the day begins, counted in minutes round the clock.
-
 fn clock(half: u16) -> (u16, u16)
     ensures { (result.0 * 60 + result.1 ≡ (1380 + 30 * half) % 1440) × (result.1 < 60) }
 {

@@ -19,7 +19,7 @@ pub record PriceList (m : Market) (D : ℕ) (Y : ℕ → ℤ) : Type 0 where
   pub reserve : (w p : ℕ) → w < length m.windows → ((window_at m w).service ≢ Response) → p < 2
       → (pos 0 ≤ℤ price_of Y w p) × (price_of Y w p ≤ℤ (pos 99999 *ℤ pos D))
   pub no_product : (w p : ℕ) → w < length m.windows → ((window_at m w).service ≢ Response) → 2 ≤ p → p < 6 → price_of Y w p ≡ pos 0
-  pub no_window_lem : (w p : ℕ) → length m.windows ≤ w → w < 32 → p < 6 → price_of Y w p ≡ pos 0
+  pub no_other_window : (w p : ℕ) → length m.windows ≤ w → w < 32 → p < 6 → price_of Y w p ≡ pos 0
 
 -- what a sell order gains on product p, for each of its parts: quantity × (line price − own price)
 abbrev pub gain : ℕ → (ℕ → ℤ) → ℕ → List ℕ → ℤ → ℕ → ℤ
