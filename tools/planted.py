@@ -16,17 +16,21 @@ with a line of its own for each line of text, and more texts and more files if n
 a line `= why` says that the prover is not expected to refuse the bug, and why; a line `~ PROGRAM` says that the output of that
 program shows the bug too, whatever is proved.
 
-Each bug is made in a copy of the repository, and its crate is proved over what is proved of it already (so run `rt check` first).
+Each bug is made in a copy of the repository, and its crate is proved over what is proved of it already (so run `rt all check` first).
 A function is proved from its own body and the contracts of those that it calls, so bugs in the bodies of several functions are
 planted in one copy, and each is judged by its own function; one whose function is still proved is then planted alone.
-What is still proved alone is followed up: all that depends on the crate is proved, every program is run and its output compared,
-and the tests are run. It takes long, so it is run by hand and is no part of the checks.
+What is still proved alone is followed up: all that depends on the crate is proved, every program of that is run and its output
+compared, and the tests are run. A bug that cannot be planted, compiled or read is unfit: it says nothing. A function can also fall
+only because its proof names what the bug takes away (a local, a call); that says little of the contract, and is told apart (named).
+
+The outcomes are kept in target/planted, with what the check said of each bug. A copy takes as much disk as crates/ with what the
+checks keep there (some 2 GB); --jobs N has N of them, in a temporary folder. It takes long, so it is run by hand and is no part of
+the checks.
 """
 
 import argparse
 import concurrent.futures
 import json
-import os
 import pathlib
 import queue
 import re
@@ -126,35 +130,85 @@ def above(crate):
     """The crate and all that depend on it."""
     uses = {}
     for line in (ROOT / "crates.txt").read_text().splitlines():
-        name, _, deps = line.partition(":")
-        uses[name] = set(deps.split())
+        name, _, deps = line.partition("#")[0].partition(":")
+        if name.strip():
+            uses[name.split()[0]] = set(deps.split())
     found = {crate}
     while more := {name for name, deps in uses.items() if deps & found} - found:
         found |= more
-    return sorted(found)
+    return [name for name in uses if name in found]
 
 
-def rt(copy, *words):
-    done = subprocess.run(["rt", *words], cwd=copy, capture_output=True, text=True, env={**os.environ, "RT_JOBS": "1"})
+def rt(copy, crate, *words):
+    folder = copy / "crates" / crate
+    done = subprocess.run(["rt", *words], cwd=folder, stdin=subprocess.DEVNULL, capture_output=True, text=True)
     return done.returncode, done.stdout + done.stderr
+
+
+def check(copy, crate):
+    return rt(copy, crate, "check", "--jobs", "1")
+
+
+def tests(copy, crate):
+    """Proves and runs the tests, where the crate has any."""
+    has = any("#[test]" in path.read_text() for path in (copy / "crates" / crate / "src").rglob("*.rt"))
+    return rt(copy, crate, "test")[0] == 0 if has else True
+
+
+def is_program(copy, crate):
+    return (copy / "crates" / crate / "src" / "main.rt").exists()
+
+
+def run(copy, program):
+    """What the program does, run without a proof on the files that `rt ci` runs it on: as it should, something else, or it does not compile."""
+    folder = copy / "crates" / program
+    words = ["rt", "try"]
+    for file in sorted((folder / "data").glob("*")):
+        words += ["--data", f"{file.name}={file}"]
+    if (folder / "args").exists():
+        words += ["--", *(folder / "args").read_text().splitlines()]
+    given, wanted, status = (folder / name for name in ("stdin", "stdout", "status"))
+    done = subprocess.run(words, cwd=folder, input=given.read_bytes() if given.exists() else b"", capture_output=True)
+    if b"run=none" in done.stderr:
+        return "does not compile"
+    same = done.stdout == (wanted.read_bytes() if wanted.exists() else b"")
+    return "same" if same and done.returncode == (int(status.read_text()) if status.exists() else 0) else "differs"
+
+
+ERROR = re.compile(r"^(?:\./)?((?:src|specs|proofs)/\S+\.(?:antt|rt)):\d+:\d+: error: (.*)", re.M)
+GONE = re.compile(r"has no field|is not in scope|has no `|was not admitted")
+UNREAD = re.compile(r"is not in scope|has no field|is no name|operand is missing|expected the end|cannot continue")
 
 
 def where_refused(said):
     """The functions that are no longer proved, else the files that are no longer accepted."""
     names = re.findall(r"^fn (\S+): (?:not proved|no proof|could not tell)", said, re.M)
-    files = re.findall(r"^\S*?((?:src|specs|proofs)/\S+\.(?:antt|rt)):\d+:\d+: error", said, re.M)
-    return list(dict.fromkeys(names or files))
+    return list(dict.fromkeys(names or [file for file, _ in ERROR.findall(said)]))
+
+
+def by_name_only(said, body=""):
+    """Whether all that is wrong (with the proof of one function) is that a proof names what is not there now."""
+    errors = [(file, told) for file, told in ERROR.findall(said) if f"/{body}/" in file or not body]
+    return bool(errors) and all(file.startswith("proofs/") and GONE.search(told) for file, told in errors)
+
+
+def unread(bug, said):
+    """What the prover cannot read of the files in which the bug is planted: a bug that only makes a statement false reads well."""
+    for file, told in ERROR.findall(said):
+        plain = re.sub(r"`[^`]*`", "", told.partition(": ")[2] if told.startswith("`") else told)
+        if file in {name for name, _, _ in bug.texts} and (not told.startswith("`") or UNREAD.search(plain)):
+            return f"{file}: {told}"
+    return ""
 
 
 def prove(bugs, bodies, copy):
-    """What becomes of each bug (refused, seen, survived or unfit), and where."""
+    """What becomes of each bug (refused, named, seen, survived or unfit), and where."""
     where = proved_together(bugs, copy) if len(bugs) > 1 else []
     outcomes = []
     for bug, body in zip(bugs, bodies or [None]):
         names = [name for name in where if name.split("::")[-1] == body]
         if not names:
             restored(copy, f"crates/{bug.crate}")
-            restored(copy, f"target/inc/{bug.crate}")
         outcomes.append(("refused", names) if names else prove_alone(bug, copy))
     return outcomes
 
@@ -166,10 +220,10 @@ def proved_together(bugs, copy):
         if not plant(bug, copy):
             planted.append(bug)
     for _ in bugs:
-        said = rt(copy, "dev", bugs[0].crate)[1]
+        said = check(copy, bugs[0].crate)[1]
         (KEPT / f"{bugs[0].name.replace('/', '.')}.together.log").write_text(said)
         if re.search(r"^logic=", said, re.M):
-            return where_refused(said)
+            return [name for name in where_refused(said) if not by_name_only(said, name.split("::")[-1])]
         places = [(file, int(line)) for file, line in re.findall(r"(src/\S+?\.rt):(\d+):\d+: error", said)]
         left = [bug for bug in planted if not any(stands_at(bug, copy, *place) for place in places)]
         if len(left) == len(planted):
@@ -196,21 +250,33 @@ def prove_alone(bug, copy):
     fault = plant(bug, copy)
     if fault:
         return "unfit", [fault]
-    status, said = rt(copy, "dev", bug.crate)
-    log = KEPT / f"{bug.name.replace('/', '.')}.log"
-    log.write_text(said)
+    status, said = check(copy, bug.crate)
+    (KEPT / f"{bug.name.replace('/', '.')}.log").write_text(said)
     if re.search(r"^logic=not-proved", said, re.M):
-        return "refused", where_refused(said)
+        fault = unread(bug, said)
+        if fault:
+            return "unfit", [fault]
+        return "named" if by_name_only(said) else "refused", where_refused(said)
     if status != 0:
         return "unfit", [" ".join(said.split())[:400]]
-    status, said = rt(copy, "check", *above(bug.crate))
-    log.write_text(said)
-    for part in ("inc", "rlib", "stamp"):
-        restored(copy, f"target/{part}")
-    if status == 0:
-        return "survived", []
-    told = [line for line in said.splitlines() if re.search(r"NOT PROVED|differ|FAIL|fail|wrote", line)]
-    return "seen", [(told or said.splitlines()[-3:])[0].removeprefix("rt: ")]
+    try:
+        return follow_up(bug, copy)
+    finally:
+        for crate in above(bug.crate):
+            restored(copy, f"crates/{crate}")
+
+
+def follow_up(bug, copy):
+    """What becomes of a bug with which its crate is still proved: whether a crate above is not, or a program or a test shows it."""
+    crates = above(bug.crate)
+    for crate in crates:
+        status, said = check(copy, crate)
+        if status != 0:
+            (KEPT / f"{bug.name.replace('/', '.')}.log").write_text(said)
+            return ("refused", where_refused(said)) if re.search(r"^logic=not-proved", said, re.M) else ("unfit", [" ".join(said.split())[:400]])
+    seen = [f"the output of {crate} differs" for crate in crates if is_program(copy, crate) and run(copy, crate) != "same"]
+    seen += [f"a test of {crate} fails" for crate in crates if not tests(copy, crate)]
+    return ("seen", seen) if seen else ("survived", [])
 
 
 def run_programs(bugs, bodies, copy):
@@ -218,7 +284,10 @@ def run_programs(bugs, bodies, copy):
     fault = plant(bugs[0], copy)
     if fault:
         return [("unfit", [fault])]
-    same = [program for program in bugs[0].programs if rt(copy, "try", program)[0] == 0]
+    told = {program: run(copy, program) for program in bugs[0].programs}
+    if "does not compile" in told.values():
+        return [("unfit", ["it does not compile"])]
+    same = [program for program in told if told[program] == "same"]
     return [("same", same) if same else ("differs", bugs[0].programs)]
 
 
@@ -241,10 +310,9 @@ def plant_all(groups, jobs, judge, kind):
         copies = queue.Queue()
         for n in range(jobs):
             copy = pathlib.Path(folder) / str(n)
-            for part in ("crates", "target/inc", "target/rlib", "target/stamp"):
-                (copy / part).parent.mkdir(parents=True, exist_ok=True)
+            copy.mkdir()
+            for part in ("crates", "crates.txt", "HANDLES"):
                 restored(copy, part)
-            shutil.copy(ROOT / "crates.txt", copy)
             copies.put(copy)
 
         def work(group):
@@ -253,7 +321,6 @@ def plant_all(groups, jobs, judge, kind):
                 return judge(group["bugs"], group["bodies"], copy)
             finally:
                 restored(copy, f"crates/{group['bugs'][0].crate}")
-                restored(copy, f"target/inc/{group['bugs'][0].crate}")
                 copies.put(copy)
 
         for group, told in zip(groups, pool.map(work, groups)):
@@ -271,7 +338,8 @@ def cell(text):
 def row(bug, proved, ran):
     kind, where = proved
     told = {
-        "refused": "refused: " + ", ".join(f"`{name.partition('::')[2] or name}`" for name in where[:4]),
+        "refused": "refused: " + ", ".join(f"`{name.removeprefix(bug.crate + '::')}`" for name in where[:4]),
+        "named": "refused, but only since a proof names what is gone: " + ", ".join(f"`{name.removeprefix(bug.crate + '::')}`" for name in where[:4]),
         "seen": f"proved, but {', '.join(where)}: {bug.why}",
         "survived": f"survives: {bug.why}",
     }[kind]
@@ -285,7 +353,7 @@ def report():
     proved, ran = kept("proved"), kept("ran")
     lines, subject, counts = [], None, {}
     for bug in all_bugs():
-        if bug.name not in proved or (bug.programs and bug.name not in ran):
+        if proved.get(bug.name, ["unfit"])[0] == "unfit" or (bug.programs and ran.get(bug.name, ["unfit"])[0] == "unfit"):
             sys.exit(f"{bug.name} has not been planted")
         if bug.subject != subject:
             subject = bug.subject
@@ -315,7 +383,7 @@ def main():
         wrong = [bug.name for bug in bugs if outcomes[bug.name] != "differs"]
     else:
         outcomes = plant_all(groups_of(bugs), told.jobs, prove, "proved")
-        wrong = [bug.name for bug in bugs if outcomes[bug.name] not in (("seen", "survived") if bug.why else ("refused",))]
+        wrong = [bug.name for bug in bugs if outcomes[bug.name] not in (("seen", "survived") if bug.why else ("refused", "named"))]
     if wrong:
         sys.exit("not as expected: " + ", ".join(wrong))
 
