@@ -3,6 +3,7 @@
 
     planted.py [--jobs N] [NAME ..]        plants the named ones, or all of planted/*.txt, and proves
     planted.py --outputs [NAME ..]         runs programs with the bug in, and proves nothing
+    planted.py --fits                      only says whether the text of each bug of planted/ stands where the bug is to be planted
     planted.py --report                    writes the outcomes into docs/PLANTED-BUGS.md
 
 NAME is that of a file of planted/ (CRATE, or CRATE-SUBJECT), or NAME/LABEL for one bug of it. A bug is a paragraph there:
@@ -124,6 +125,23 @@ def plant(bug, copy):
             return f"the text stands {text.count(old)} times in {file}: {old}"
         path.write_text(text.replace(old, new))
     return ""
+
+
+def fits():
+    """Whether each bug can be made; those that cannot are named."""
+    bugs, unfit = all_bugs(), 0
+    with tempfile.TemporaryDirectory() as folder:
+        copy = pathlib.Path(folder)
+        for bug in bugs:
+            for part in ("src", "specs", "proofs"):
+                (copy / "crates" / bug.crate).mkdir(parents=True, exist_ok=True)
+                restored(copy, f"crates/{bug.crate}/{part}")
+            fault = plant(bug, copy) if bug.texts else "it has no texts"
+            if fault:
+                unfit += 1
+                print(f"{bug.name}: {fault}")
+    print(f"{len(bugs)} bugs, of which {len(bugs) - unfit} fit and {unfit} do not")
+    return unfit == 0
 
 
 def above(crate):
@@ -369,13 +387,19 @@ def main():
     parse = argparse.ArgumentParser(description=__doc__, formatter_class=argparse.RawDescriptionHelpFormatter)
     parse.add_argument("--jobs", type=int, default=2)
     parse.add_argument("--outputs", action="store_true")
+    parse.add_argument("--fits", action="store_true")
     parse.add_argument("--report", action="store_true")
     parse.add_argument("names", nargs="*")
     told = parse.parse_args()
+    if told.fits:
+        sys.exit(0 if fits() else 1)
     if told.report:
         return report()
     names = set(told.names)
     bugs = [bug for bug in all_bugs() if not names or names & {bug.name, bug.subject}]
+    unknown = names - {bug.name for bug in bugs} - {bug.subject for bug in bugs}
+    if unknown:
+        sys.exit("no such bugs: " + ", ".join(sorted(unknown)))
     if told.outputs:
         bugs = [bug for bug in bugs if bug.programs]
         alone = [{"bugs": [bug], "bodies": []} for bug in bugs]
