@@ -206,7 +206,7 @@ def where_refused(said):
 
 def by_name_only(said, body=""):
     """Whether all that is wrong (with the proof of one function) is that a proof names what is not there now."""
-    errors = [(file, told) for file, told in ERROR.findall(said) if f"/{body}/" in file or not body]
+    errors = [(file, told) for file, told in ERROR.findall(said) if not body or re.search(rf"/\+?{body}/", file)]
     return bool(errors) and all(file.startswith("proofs/") and GONE.search(told) for file, told in errors)
 
 
