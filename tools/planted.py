@@ -22,7 +22,8 @@ A function is proved from its own body and the contracts of those that it calls,
 planted in one copy, and each is judged by its own function; one whose function is still proved is then planted alone.
 What is still proved alone is followed up: all that depends on the crate is proved, every program of that is run and its output
 compared, and the tests are run. A bug that cannot be planted, compiled or read is unfit: it says nothing. A function can also fall
-only because its proof names what the bug takes away (a local, a call); that says little of the contract, and is told apart (named).
+only because its proof names what the bug takes away (a local, a call, a condition); that says little of the contract, and is told
+apart (named).
 
 The outcomes are kept in target/planted, with what the check said of each bug. A copy takes as much disk as crates/ with what the
 checks keep there (some 2 GB); --jobs N has N of them, in a temporary folder. It takes long, so it is run by hand and is no part of
@@ -96,8 +97,9 @@ def body_of(bug):
             return None
         text = (ROOT / "crates" / bug.crate / file).read_text()
         before = text[: text.find("\n".join(old))]
-        heads = list(re.finditer(r"^ *(?:pub(?:\(\w+\))? )?fn (\w+)|^\}", before, re.M))
-        names.add(heads[-1].group(1) if heads else None)
+        heads = list(re.finditer(r"^(?: *#\[cycle\((\w+)\)\]\n)? *(?:pub(?:\(\w+\))? )?fn (\w+)|^\}", before, re.M))
+        # functions that call one another have one proof, so a bug in one of them is planted alone
+        names.add(heads[-1].group(2) if heads and not heads[-1].group(1) else None)
     return names.pop() if len(names) == 1 else None
 
 
@@ -198,10 +200,16 @@ GONE = re.compile(r"has no field|is not in scope|has no `|was not admitted")
 UNREAD = re.compile(r"is not in scope|has no field|is no name|operand is missing|expected the end|cannot continue")
 
 
-def where_refused(said):
-    """The functions that are no longer proved, else the files that are no longer accepted."""
-    names = re.findall(r"^fn (\S+): (?:not proved|no proof|could not tell)", said, re.M)
+def where_refused(said, only=""):
+    """The functions that are no longer proved, but for those of which only a callee is not, else the files that are no longer accepted."""
+    names = re.findall(r"^fn (\S+): (?:not proved|no proof(?!: (?:it calls|it passes|a call of))|could not tell)" + only, said, re.M)
     return list(dict.fromkeys(names or [file for file, _ in ERROR.findall(said)]))
+
+
+def refused_among(said):
+    """Of bugs that are planted together: the functions that are no longer proved, whatever is planted in those that they call."""
+    names = where_refused(said, r"(?!.*(?:it calls|it passes|a call of))")
+    return [name for name in names if not by_name_only(said, name.split("::")[-1])]
 
 
 def by_name_only(said, body=""):
@@ -241,7 +249,7 @@ def proved_together(bugs, copy):
         said = check(copy, bugs[0].crate)[1]
         (KEPT / f"{bugs[0].name.replace('/', '.')}.together.log").write_text(said)
         if re.search(r"^logic=", said, re.M):
-            return [name for name in where_refused(said) if not by_name_only(said, name.split("::")[-1])]
+            return refused_among(said)
         places = [(file, int(line)) for file, line in re.findall(r"(src/\S+?\.rt):(\d+):\d+: error", said)]
         left = [bug for bug in planted if not any(stands_at(bug, copy, *place) for place in places)]
         if len(left) == len(planted):
