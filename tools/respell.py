@@ -2,7 +2,7 @@
 """Brings the repository's own definitions and lemmas to one spelling: functions, lemmas and fields in snake case, facts and
 records in upper camel case.
 
-usage: respell.py [--list], once, at the top of the repository as the kit's script left it
+usage: respell.py [--list], once, at the top of the repository as the kit's script left it; --list prints the names alone
 
 A name is respelled in every file of crates/ and in the edits of misuse/, planted/ and must-fail/. It stays in a file that imports it from a
 library of the toolchain, and where it is a label that the check makes of the code (in Answers, Invariants and Proof files).
@@ -114,6 +114,8 @@ def main():
     files = [file for file in sorted(pathlib.Path("crates").rglob("*")) if file.suffix in {".antt", ".rt", ".edit"} and "out" not in file.parts]
     beside = [file for folder in ("misuse", "planted") for file in sorted(pathlib.Path(folder).glob("*")) if file.is_file()]
     own = own_names(files)
+    if "no_other_extra" in own:
+        sys.exit("respell.py: this tree is respelled already")
     names = {name: respelled(name) for name in own if respelled(name) != name}
     if "--list" in sys.argv:
         for name in sorted(names):
