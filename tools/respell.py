@@ -95,7 +95,6 @@ def turn(text, names, made):
     kept = imported(text)
     if made:
         kept |= labels(text)
-    changed = set()
 
     def word(match):
         name = match.group(0)
@@ -104,10 +103,9 @@ def turn(text, names, made):
         before = text[max(0, match.start() - 5):match.start()]
         if made and (before.endswith("goal.") or before.endswith(" c.") or before.endswith("(c.")):
             return name
-        changed.add(name)
         return names[name]
 
-    return re.sub(NAME, word, text), changed
+    return re.sub(NAME, word, text)
 
 
 def main():
@@ -123,7 +121,7 @@ def main():
         return
     for file in files + beside:
         text = file.read_text()
-        new, _ = turn(plainly(text), names, file.name in MADE)
+        new = turn(plainly(text), names, file.name in MADE)
         if new != text:
             file.write_text(new)
 
