@@ -1,5 +1,5 @@
 -- Sums of whole numbers, and numbers of a known size.
-use Rattle.std.specs.Prelude.{◌≡◌, ℕ, zero, suc, ◌*◌, ℤ, pos, ◌+ℤ◌, neg_ℤ, ◌≤ℤ◌}
+use Rattle.std.specs.Prelude.{◌≡◌, ℕ, zero, suc, ◌*◌, ℤ, pos, ◌+ℤ◌, neg_ℤ, ◌≤ℤ◌, ◌<◌}
 
 -- f 0 + f 1 + … + f (n - 1)
 unfoldable pub sum_to : ℕ → (ℕ → ℤ) → ℤ
@@ -19,3 +19,7 @@ pub record Term (f : ℕ → ℤ) (size k : ℕ) (z : ℤ) : Type 0 where
 pub record Summed (f : ℕ → ℤ) (size n : ℕ) (z : ℤ) : Type 0 where
   pub is : z ≡ sum_to n f
   pub small : Within (n * size) z
+
+-- Whatever is answered at a number below n is the term there, at most `size` in magnitude.
+abbrev pub Terms : (ℕ → ℤ → Type 0) → (ℕ → ℤ) → ℕ → ℕ → Type 0
+Terms answers f size n = (k : ℕ) (z : ℤ) → k < n → answers k z → Term f size k z

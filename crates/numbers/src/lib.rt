@@ -1,3 +1,9 @@
-// The words that the crates above count with: sums of whole numbers, sums that fit 64 bits, and searches for the
-// lowest number with a property. It has definitions and lemmas only; the code that uses them stands above.
+// The words that the crates above count with, and the two ways in which their code counts: a sum of terms that fits 64
+// bits, and a search for the lowest number with a property.
 #![tactic(auto)]
+
+mod adds;
+mod finds;
+
+pub use adds::sum_of;
+pub use finds::lowest_passing;
