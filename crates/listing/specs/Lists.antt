@@ -1,10 +1,12 @@
 -- What a listing of a file is.
-use Rattle.std.specs.Prelude.{◌≡◌, ℕ, ◌+◌, ◌<◌, ◌≤◌, List, ◌++◌, length, drop, Ok, Err}
+use Rattle.std.specs.Prelude.{◌≡◌, ℕ, ◌+◌, ◌<◌, ◌≤◌, List, ◌++◌, length, drop, Ok, Err, Result}
 use Rattle.records.specs.Faults.{code}
 use Rattle.records.specs.Read.{Content, read}
 use Rattle.records.specs.declared.Fault.{Fault}
 use Rattle.records.specs.declared.Fault.TheVariants.{TooLong}
 use Rattle.records.specs.declared.Kind.{Kind}
+use Rattle.listing.specs.declared.lists.Stop.{Stop}
+use Rattle.listing.specs.declared.lists.Stop.TheVariants.{Memory, Refused}
 use Rattle.listing.specs.Lines.{line_text, count_text, fault_text}
 
 -- the text for what stands from a place on, after so many records:
@@ -18,3 +20,13 @@ pub data Listed (kinds : List Kind) (file : List ℕ) : ℕ → ℕ → List ℕ
 pub data Lists (kinds : List Kind) (file : List ℕ) : List ℕ → Type 0 where
   whole : {text : List ℕ} → length file ≤ 65535 → Listed kinds file 0 0 text → Lists kinds file text
   too_long : 65535 < length file → Lists kinds file (fault_text (code TooLong).number 0)
+
+-- what is added to a text is all of a listing but this last line
+abbrev pub AllBut : List Kind → List ℕ → List ℕ → List ℕ → List ℕ → Type 0
+AllBut kinds file last old new = (lines : List ℕ) × (new ≡ old ++ lines) × Lists kinds file (lines ++ last)
+
+-- the last line is that of the count, or of the fault; where memory runs out nothing is told
+abbrev pub Added : List Kind → List ℕ → List ℕ → List ℕ → Result ℕ Stop → Type 0
+Added kinds file old new (Ok n) = AllBut kinds file (count_text n) old new
+Added kinds file old new (Err (Refused e)) = AllBut kinds file (fault_text (code e.fault).number e.place) old new
+Added kinds file old new (Err (Memory e)) = Unit {0}

@@ -1,4 +1,5 @@
-// Every kind of record that a file may hold.
+// Every kind of record that a file may hold. They stand here once more, since a listing knows only `records`: it reads any
+// file, whoever opens it.
 use records::Kind;
 
 pub const KINDS: [Kind; 10] = [

@@ -32,9 +32,6 @@ module _ (kind map count : ℕ) (rest held : List ℕ) (long : width kind * ones
   pub held_length : length held ≡ width kind * ones map
   held_length = ap length cut ∙ length-take-le (width kind * ones map) rest long
 
-  pub body_zero : has_zero (values kind (ones map) held) ≡ true → body kind map rest (Some count) ≡ Err ZeroField
-  body_zero e = passed ∙ ap (last held) e
-
   pub body_ok : has_zero (values kind (ones map) held) ≡ false → body kind map rest (Some count) ≡ Ok (record { kind = kind; fields = fields kind 16 map held; size = 3 + length held })
   body_ok e = passed ∙ ap (last held) e ∙ ap (λ n. Ok (record { kind = kind; fields = fields kind 16 map held; size = 3 + n })) (sym held_length)
 
@@ -43,7 +40,7 @@ pub inside : (x y : Content) → ◌≡◌ {A = Result Content Fault} (Ok x) (Ok
 inside x y h = cc
 
 pub passed_test : (b : Bool) (x : Fault) (r : Result Content Fault) (c : Content) → cond b (Err x) r ≡ Ok c → (b ≡ false) × (r ≡ Ok c)
-passed_test true x r c h = let z : ◌≡◌ {A = ℕ} 0 1 = cc in absurd (omega arith)
+passed_test true x r c h = absurd cc
 passed_test false x r c h = (refl, h)
 
 pub record Passed (kind map : ℕ) (rest : List ℕ) (o : Option ℕ) (c : Content) : Type 0 where
@@ -55,7 +52,7 @@ pub record Passed (kind map : ℕ) (rest : List ℕ) (o : Option ℕ) (c : Conte
   pub is : record { kind = kind; fields = fields kind 16 map (take (width kind * ones map) rest); size = 3 + width kind * ones map } ≡ c
 
 pub body_passed : (kind map : ℕ) (rest : List ℕ) (o : Option ℕ) (c : Content) → body kind map rest o ≡ Ok c → Passed kind map rest o c
-body_passed kind map rest None c h = let z : ◌≡◌ {A = ℕ} 0 1 = cc in absurd (omega arith)
+body_passed kind map rest None c h = absurd cc
 body_passed kind map rest (Some count) c h =
     let size = width kind * ones map in
     let first = passed_test (ltb (length rest) size) CutShort _ c h in
@@ -65,9 +62,9 @@ body_passed kind map rest (Some count) c h =
 
 -- it lies within the bytes, and has at least a head
 pub read_fits : (kinds : List Kind) (bs : List ℕ) (c : Content) → read kinds bs ≡ Ok c → (3 ≤ c.size) × (c.size ≤ length bs)
-read_fits kinds [] c h = let z : ◌≡◌ {A = ℕ} 0 1 = cc in absurd (omega arith)
-read_fits kinds (x ∷ []) c h = let z : ◌≡◌ {A = ℕ} 0 1 = cc in absurd (omega arith)
-read_fits kinds (x ∷ y ∷ []) c h = let z : ◌≡◌ {A = ℕ} 0 1 = cc in absurd (omega arith)
+read_fits kinds [] c h = absurd cc
+read_fits kinds (x ∷ []) c h = absurd cc
+read_fits kinds (x ∷ y ∷ []) c h = absurd cc
 read_fits kinds (kind ∷ high ∷ low ∷ rest) c h =
     let p = body_passed kind (high * 256 + low) rest (field_count kinds kind) c h in
     subst (λ c. (3 ≤ c.size) × (c.size ≤ suc (suc (suc (length rest))))) p.is (omega arith, omega (arith, p.long))

@@ -1,13 +1,10 @@
 -- Looking for a kind among a file's kinds. Assumes nothing.
-use Rattle.std.proofs.Common.{◌≡◌, ℕ, ◌+◌, ◌<◌, List, length, get_or, drop, Some, ap, ◌∙◌}
-use Rattle.std.proofs.lemmas.List.{drop_more}
-use Rattle.std.proofs.lemmas.Bool.{eq-eqb, ne_eqb, cond-true, cond-false}
+use Rattle.std.proofs.Common.{◌≡◌, ◌==◌, ℕ, cond, true, false, List, [], ◌∷◌, Some, refl, option_map}
+use Rattle.std.specs.List.{find}
 use Rattle.records.specs.declared.Kind.{Kind}
 use Rattle.records.specs.Read.{field_count}
 
-module _ (kinds : List Kind) (i k : ℕ) (d : Kind) (within : i < length kinds) where
-  pub count_here : (get_or kinds i d).number ≡ k → field_count (drop i kinds) k ≡ Some (get_or kinds i d).fields
-  count_here e = ap (λ l. field_count l k) (drop_more kinds i d within) ∙ cond-true _ _ _ (eq-eqb _ k e)
-
-  pub count_later : ((get_or kinds i d).number ≡ k → ⊥) → field_count (drop i kinds) k ≡ field_count (drop (i + 1) kinds) k
-  count_later ne = ap (λ l. field_count l k) (drop_more kinds i d within) ∙ cond-false _ _ _ (ne_eqb _ k ne)
+pub count_found : (kinds : List Kind) (k : ℕ) → option_map (λ e. e.fields) (find (λ e. e.number == k) kinds) ≡ field_count kinds k
+count_found [] k = refl
+count_found (e ∷ es) k =
+    elim (e.number == k) as (λ b. option_map (λ e. e.fields) (cond b (Some e) (find (λ e. e.number == k) es)) ≡ cond b (Some e.fields) (field_count es k)) [ true ↦ refl | false ↦ count_found es k ]

@@ -9,10 +9,7 @@ use Rattle.std.proofs.lemmas.Bool.{eqb-true, eqb-false, eq-eqb, ne_eqb, ltb-true
 use Rattle.records.specs.Bytes.{value, width}
 use Rattle.records.specs.Read.{fields}
 
--- the code's tests and masks
-pub bit_is : (m i : ℕ) → bit_and (m / 2 ^ i) 1 ≡ m / 2 ^ i % 2
-bit_is m i = and_mask (m / 2 ^ i) 1
-
+-- the code's mask
 pub mask_is : (m i : ℕ) → i < 16 → bit_and m ((1 * 2 ^ i) % 65536 - 1) ≡ m % 2 ^ i
 mask_is m i h = ap (λ k. bit_and m (k - 1)) (one_shl i 16 h) ∙ and_mask m i
 

@@ -119,9 +119,9 @@ body_back kind high low rest o c p q all h =
     ∙ (λ i. kind ∷ (sym w.0 i / 256) ∷ (sym w.0 i % 256) ∷ sym w.1 i))
 
 pub begins : (kinds : List Kind) (bs : List ℕ) (c : Content) → AllByRecursion Byte bs → read kinds bs ≡ Ok c → take c.size bs ≡ encode c.kind c.fields
-begins kinds [] c all h = let z : ◌≡◌ {A = ℕ} 0 1 = cc in absurd (omega arith)
-begins kinds (x ∷ []) c all h = let z : ◌≡◌ {A = ℕ} 0 1 = cc in absurd (omega arith)
-begins kinds (x ∷ y ∷ []) c all h = let z : ◌≡◌ {A = ℕ} 0 1 = cc in absurd (omega arith)
+begins kinds [] c all h = absurd cc
+begins kinds (x ∷ []) c all h = absurd cc
+begins kinds (x ∷ y ∷ []) c all h = absurd cc
 begins kinds (kind ∷ high ∷ low ∷ rest) c all h = body_back kind high low rest (field_count kinds kind) c all.1.0 all.1.1.0 all.1.1.1 h
 
 pub writes_back : WritesBack

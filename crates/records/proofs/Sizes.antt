@@ -6,7 +6,7 @@ use Rattle.records.specs.Read.{is_zero}
 
 pub zero_is : (z : ℤ) → is_zero z ≡ true → z ≡ pos 0
 zero_is (pos n) e = ap pos (eqb-true n 0 e)
-zero_is (negsuc n) e = let z : ◌≡◌ {A = ℕ} 0 1 = cc in absurd (omega arith)
+zero_is (negsuc n) e = absurd cc
 
 pub value_short : (kind : ℕ) (bs : List ℕ) → length bs < width kind → value kind bs ≡ pos 0
 value_short kind bs h = cond-true _ _ _ (lt-ltb (length bs) (width kind) h)

@@ -57,9 +57,9 @@ body_own kinds kind map rest c h =
     })
 
 pub read_own : (kinds : List Kind) (bs : List ℕ) (c : Content) → read kinds bs ≡ Ok c → Own kinds c
-read_own kinds [] c h = let z : ◌≡◌ {A = ℕ} 0 1 = cc in absurd (omega arith)
-read_own kinds (x ∷ []) c h = let z : ◌≡◌ {A = ℕ} 0 1 = cc in absurd (omega arith)
-read_own kinds (x ∷ y ∷ []) c h = let z : ◌≡◌ {A = ℕ} 0 1 = cc in absurd (omega arith)
+read_own kinds [] c h = absurd cc
+read_own kinds (x ∷ []) c h = absurd cc
+read_own kinds (x ∷ y ∷ []) c h = absurd cc
 read_own kinds (kind ∷ high ∷ low ∷ rest) c h = body_own kinds kind (high * 256 + low) rest c h
 
 pub spelt : (kinds : List Kind) (bs : List ℕ) (c : Content) → AllByRecursion Byte bs → read kinds bs ≡ Ok c → Spelt kinds bs c
@@ -86,8 +86,7 @@ read_spelt kinds bs c s = ap (read kinds) s.bytes ∙ reads_back kinds c.kind s.
 pub unspelt : (kinds : List Kind) (bs : List ℕ) (e : Fault) → read kinds bs ≡ Err e → (c : Content) → Spelt kinds bs c → ⊥
 unspelt kinds bs e h c s =
     let both : ◌≡◌ {A = Result Content Fault} (Err e) (Ok c) = sym h ∙ read_spelt kinds bs c s in
-    let z : ◌≡◌ {A = ℕ} 0 1 = cc in
-    absurd (omega arith)
+    absurd cc
 
 pub stands : Stands
 stands kinds bs c all = (spelt kinds bs c all, read_spelt kinds bs c)

@@ -1,7 +1,7 @@
 -- Reading gives back what was written. Assumes nothing.
 use Rattle.std.proofs.Common.{◌≡◌, ℕ, zero, suc, ◌+◌, ◌*◌, ◌/◌, ◌%◌, ◌^◌, ◌<◌, ◌≤◌, Bool, true, false, cond, ◌||◌, List, [], ◌∷◌, ◌++◌, length, drop, ℤ, pos, negsuc, Ok, sym, refl, ap, ◌∙◌, pow-suc, mul-zero, mul-suc, arith, length-append, w32, w64, SFits, to_z, of_z}
 use lib.Count.{ones, ones_step}
-use Rattle.std.proofs.lemmas.Nat.{div-add-mod', div_below, div-mul-add, mod-mul-add, pow_pos}
+use Rattle.std.proofs.lemmas.Nat.{div-add-mod', div_below, pow_pos}
 use Rattle.std.proofs.lemmas.List.{take_at, drop_at, length_push}
 use Rattle.std.proofs.lemmas.Int.{to_z-of_z}
 use Rattle.std.proofs.lemmas.Bool.{cond-true, cond-false, eq-eqb, ne_eqb, le-ltb}
@@ -63,16 +63,16 @@ module _ (kind : ℕ) (z : ℤ) (t : List ℕ) where
 
 -- one field more in the map
 even_half : (m : ℕ) → (0 + 2 * m) / 2 ≡ m
-even_half m = ap (λ k. k / 2) (omega arith) ∙ div-mul-add m 2 0 (omega arith)
+even_half m = omega arith
 
 even_bit : (m : ℕ) → (0 + 2 * m) % 2 ≡ 0
-even_bit m = ap (λ k. k % 2) (omega arith) ∙ mod-mul-add m 2 0 (omega arith)
+even_bit m = omega arith
 
 odd_half : (m : ℕ) → (1 + 2 * m) / 2 ≡ m
-odd_half m = ap (λ k. k / 2) (omega arith) ∙ div-mul-add m 2 1 (omega arith)
+odd_half m = omega arith
 
 odd_bit : (m : ℕ) → (1 + 2 * m) % 2 ≡ 1
-odd_bit m = ap (λ k. k % 2) (omega arith) ∙ mod-mul-add m 2 1 (omega arith)
+odd_bit m = omega arith
 
 ones_even : (m : ℕ) → ones (0 + 2 * m) ≡ ones m
 ones_even m = ones_step (0 + 2 * m) ∙ omega (arith, even_bit m, ap ones (even_half m))

@@ -55,4 +55,4 @@ read kinds (kind ∷ high ∷ low ∷ rest) = body kind (high * 256 + low) rest 
 
 -- what a record says
 abbrev pub content : Record → Content
-content r = record { kind = r.kind; fields = fields r.kind 16 r.map r.bytes.now; size = 3 + length r.bytes.now }
+content r = record { kind = r.kind; fields = fields r.kind 16 r.map.bits r.bytes.now; size = 3 + length r.bytes.now }

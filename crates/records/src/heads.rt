@@ -1,50 +1,32 @@
 // The record that some bytes begin with, and its fields.
-ghost use Rattle.std.specs.Prelude.{◌≡◌, ◌/◌, ◌%◌, ◌^◌, ◌<◌, true, pos, ◌==◌, count_ones, nat_lt, slice_index_or};
+ghost use Rattle.std.specs.Prelude.{◌≡◌, pos, slice_index_or};
 ghost use Rattle.records.specs.Read.{field_count, content};
 ghost use Rattle.records.specs.Taken.{Head};
 
-use super::fields::{field_width, pass_fields, take_field};
+use super::fields::{Fields, field_width};
+use super::maps::BitMap;
 use super::{Fault, Kind, Record};
 
-// Whether the map has this bit.
-fn stands(map: u16, bit: u8) -> bool
-    ensures told { result ≡ (map / 2 ^ bit % 2 == 1) }
-    ensures low { result ≡ true → bit < 16 }
-{
-    bit < 16 && map >> bit & 1 == 1
-}
-
-// Whether the map has a bit from this one on.
-fn has_bit_from(map: u16, bit: u8) -> bool
-    ensures { result ≡ nat_lt 0 (map / 2 ^ bit) }
-{
-    bit < 16 && map >> bit > 0
-}
-
-// How many bits of the map stand below this one.
-fn ones_below(map: u16, bit: u8) -> usize
-    requires { bit < 16 }
-    ensures { result ≡ count_ones (map % 2 ^ bit) }
-{
-    (map & ((1 << bit) - 1)).count_ones() as usize
-}
-
 impl<'a> Record<'a> {
-    // The field of this bit, or 0 where the record has none.
+    // The field of this bit, or 0 where the record has none: a field that stands is never 0.
     pub fn field(&self, bit: u8) -> i64
         ensures { result ≡ slice_index_or (content self.now).fields bit (pos 0) }
     {
-        if !stands(self.map, bit) {
+        if !self.map.stands(bit) {
             return 0;
         }
-        let start = ones_below(self.map, bit) * field_width(self.kind);
-        if start > self.bytes.len() {
-            return 0;
-        }
-        let Ok(field) = take_field(self.kind, &self.bytes[start..]) else {
+        let start = self.map.ones_below(bit) * field_width(self.kind);
+        let Some(bytes) = self.bytes.get(start..) else {
             return 0;
         };
-        field.value
+        let mut fields = Fields {
+            kind: self.kind,
+            bytes,
+        };
+        let Ok(value) = fields.take() else {
+            return 0;
+        };
+        value
     }
 }
 
@@ -52,12 +34,10 @@ impl<'a> Record<'a> {
 fn field_count(kinds: &[Kind], number: u8) -> Option<u8>
     ensures { result ≡ field_count kinds.now number }
 {
-    for kind in kinds {
-        if kind.number == number {
-            return Some(kind.fields);
-        }
-    }
-    None
+    kinds
+        .iter()
+        .find(|kind| kind.number == number)
+        .map(|kind| kind.fields)
 }
 
 // The record that `left` begins with, which stands at `place` in its file.
@@ -65,24 +45,26 @@ fn field_count(kinds: &[Kind], number: u8) -> Option<u8>
 pub(super) fn head<'a>(kinds: &[Kind], place: usize, left: &'a [u8]) -> Result<Record<'a>, Fault>
     ensures { Head kinds.now place left.now result }
 {
-    let [kind, high, low, rest @ ..] = left else {
+    let &[kind, high, low, ref rest @ ..] = left else {
         return Err(Fault::CutShort);
     };
-    let kind = *kind;
     let Some(count) = field_count(kinds, kind) else {
         return Err(Fault::UnknownKind);
     };
-    let map = u16::from_be_bytes([*high, *low]);
-    let standing = map.count_ones() as usize;
+    let map = BitMap {
+        bits: u16::from_be_bytes([high, low]),
+    };
+    let standing = map.ones();
     let size = field_width(kind) * standing;
     if rest.len() < size {
         return Err(Fault::CutShort);
     }
-    if has_bit_from(map, count) {
+    if map.stands_from(count) {
         return Err(Fault::BitBeyond);
     }
-    let bytes = &rest[0..size];
-    pass_fields(kind, standing, bytes)?;
+    let bytes = &rest[..size];
+    let fields = Fields { kind, bytes };
+    fields.pass(standing)?;
     Ok(Record {
         kind,
         place,

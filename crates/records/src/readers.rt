@@ -38,12 +38,11 @@ impl<'a> Reader<'a> {
             return Ok(None);
         }
         let place = self.place;
-        match head(self.kinds, place, &self.file[place..]) {
-            Ok(record) => {
-                self.place += 3 + record.bytes.len();
-                Ok(Some(record))
-            }
-            Err(fault) => Err(Refusal { fault, place }),
-        }
+        let record = head(self.kinds, place, &self.file[place..]).map_err(|fault| Refusal {
+            fault,
+            place,
+        })?;
+        self.place += 3 + record.bytes.len();
+        Ok(Some(record))
     }
 }

@@ -1,5 +1,5 @@
 // Files in bytes, and what reading them comes to.
-use records::{Kind, Reader, Refusal};
+use records::{Fault, Kind, Reader, Refusal};
 use std::test::Fail;
 
 // Kind 1 stands twice, and only its first entry counts.
@@ -30,13 +30,8 @@ const KINDS: [Kind; 6] = [
     },
 ];
 
-// How many records are read, and the number and place of the fault: 0 and 0 where there is none.
-#[derive(Clone, Copy, Debug, PartialEq)]
-struct Outcome {
-    records: usize,
-    fault: u8,
-    place: usize,
-}
+// How many records a file has, or how many are read before it is refused, and how.
+type Outcome = Result<usize, (usize, Refusal)>;
 
 #[derive(Clone, Copy)]
 struct Case<'a> {
@@ -49,76 +44,89 @@ fn read<'a>(file: &'a [u8], comes_to: Outcome) -> Case<'a> {
     Case { file, comes_to }
 }
 
-fn stopped(records: usize, refusal: Refusal) -> Outcome {
-    fault(records, refusal.fault.number(), refusal.place)
+fn stopped(records: usize, fault: Fault, place: usize) -> Outcome {
+    Err((records, Refusal { fault, place }))
 }
 
 fn walk<'a>(file: &'a [u8], kinds: &'a [Kind]) -> Outcome {
-    let mut reader = match Reader::open(file, kinds) {
-        Ok(reader) => reader,
-        Err(refusal) => return stopped(0, refusal),
-    };
+    let mut reader = Reader::open(file, kinds).map_err(|refusal| (0, refusal))?;
     let mut records = 0;
-    loop {
-        let next = match reader.next() {
-            Ok(next) => next,
-            Err(refusal) => return stopped(records, refusal),
-        };
-        if next.is_none() {
-            return whole(records);
-        }
+    while let Some(_record) = reader.next().map_err(|refusal| (records, refusal))? {
         records += 1;
     }
-}
-
-const fn whole(records: usize) -> Outcome {
-    Outcome {
-        records,
-        fault: 0,
-        place: 0,
-    }
-}
-
-const fn fault(records: usize, fault: u8, place: usize) -> Outcome {
-    Outcome {
-        records,
-        fault,
-        place,
-    }
+    Ok(records)
 }
 
 #[test]
 fn outcomes(rt: HostRuntime) {
     let cases = [
-        read(&[], whole(0)),
+        read(&[], Ok(0)),
         // Cut short in its head, whatever the kind.
-        read(&[10], fault(0, 2, 0)),
-        read(&[10, 0], fault(0, 2, 0)),
-        read(&[99, 0], fault(0, 2, 0)),
+        read(&[10], stopped(0, Fault::CutShort, 0)),
+        read(&[10, 0], stopped(0, Fault::CutShort, 0)),
+        read(&[99, 0], stopped(0, Fault::CutShort, 0)),
         // A kind that is not of the file, with or without the bytes that its map asks for.
-        read(&[99, 0, 0], fault(0, 3, 0)),
-        read(&[99, 255, 255], fault(0, 3, 0)),
-        read(&[0, 0, 0], fault(0, 3, 0)),
+        read(&[99, 0, 0], stopped(0, Fault::UnknownKind, 0)),
+        read(&[99, 255, 255], stopped(0, Fault::UnknownKind, 0)),
+        read(&[0, 0, 0], stopped(0, Fault::UnknownKind, 0)),
         // Records that end where the file ends, and one that does not.
-        read(&[10, 0, 0], whole(1)),
-        read(&[8, 0, 1, 0, 0, 0, 0, 0, 0, 0, 1], whole(1)),
-        read(&[8, 0, 1, 0, 0, 0, 0, 0, 0, 1], fault(0, 2, 0)),
-        read(&[10, 0, 0, 1, 0, 1, 0, 0, 1], fault(1, 2, 3)),
-        read(&[10, 0, 0, 10, 0, 0, 10], fault(2, 2, 6)),
+        read(&[10, 0, 0], Ok(1)),
+        read(&[8, 0, 1, 0, 0, 0, 0, 0, 0, 0, 1], Ok(1)),
+        read(
+            &[8, 0, 1, 0, 0, 0, 0, 0, 0, 1],
+            stopped(0, Fault::CutShort, 0),
+        ),
+        read(
+            &[10, 0, 0, 1, 0, 1, 0, 0, 1],
+            stopped(1, Fault::CutShort, 3),
+        ),
+        read(&[10, 0, 0, 10, 0, 0, 10], stopped(2, Fault::CutShort, 6)),
         // A bit beyond the fields counts in the length, so cut short comes first.
-        read(&[1, 0, 8], fault(0, 2, 0)),
-        read(&[1, 0, 8, 0, 0, 0, 7], fault(0, 4, 0)),
-        read(&[10, 128, 0, 0, 0, 0, 0, 0, 0, 0, 1], fault(0, 4, 0)),
-        read(&[5, 128, 0, 0, 0, 0, 7], whole(1)),
+        read(&[1, 0, 8], stopped(0, Fault::CutShort, 0)),
+        read(&[1, 0, 8, 0, 0, 0, 7], stopped(0, Fault::BitBeyond, 0)),
+        read(
+            &[10, 128, 0, 0, 0, 0, 0, 0, 0, 0, 1],
+            stopped(0, Fault::BitBeyond, 0),
+        ),
+        read(&[5, 128, 0, 0, 0, 0, 7], Ok(1)),
         // A field of 0, after all other faults.
-        read(&[1, 0, 1, 0, 0, 0, 0], fault(0, 5, 0)),
-        read(&[1, 0, 3, 0, 0, 0, 1, 0, 0, 0, 0], fault(0, 5, 0)),
-        read(&[1, 0, 3, 0, 0, 0, 0, 0, 0, 0], fault(0, 2, 0)),
-        read(&[1, 0, 9, 0, 0, 0, 0, 0, 0, 0, 7], fault(0, 4, 0)),
+        read(&[1, 0, 1, 0, 0, 0, 0], stopped(0, Fault::ZeroField, 0)),
+        read(
+            &[1, 0, 3, 0, 0, 0, 1, 0, 0, 0, 0],
+            stopped(0, Fault::ZeroField, 0),
+        ),
+        read(
+            &[1, 0, 3, 0, 0, 0, 0, 0, 0, 0],
+            stopped(0, Fault::CutShort, 0),
+        ),
+        read(
+            &[1, 0, 9, 0, 0, 0, 0, 0, 0, 0, 7],
+            stopped(0, Fault::BitBeyond, 0),
+        ),
     ];
     for case in &cases {
         assert_eq!(rt; walk(case.file, &KINDS), case.comes_to);
     }
+}
+
+// The numbers that the faults are known by.
+#[test]
+fn numbers(rt: HostRuntime) {
+    assert_eq!(rt; Fault::TooLong.number(), 1);
+    assert_eq!(rt; Fault::CutShort.number(), 2);
+    assert_eq!(rt; Fault::UnknownKind.number(), 3);
+    assert_eq!(rt; Fault::BitBeyond.number(), 4);
+    assert_eq!(rt; Fault::ZeroField.number(), 5);
+}
+
+#[test]
+fn refusal_as_text(rt: HostRuntime) -> Result<(), Fail> {
+    let refusal = Refusal {
+        fault: Fault::BitBeyond,
+        place: 12,
+    };
+    assert_eq!(rt; refusal.to_string(rt.alloc())?.as_str(), "4 at 12");
+    Ok(())
 }
 
 #[test]
@@ -128,8 +136,8 @@ fn longest_file(rt: HostRuntime) {
         fields: 0,
     }];
     let zeros = [0u8; 65_536];
-    assert_eq!(rt; walk(&zeros[0..65_535], &kinds), whole(21_845));
-    assert_eq!(rt; walk(&zeros, &kinds), fault(0, 1, 0));
+    assert_eq!(rt; walk(&zeros[0..65_535], &kinds), Ok(21_845));
+    assert_eq!(rt; walk(&zeros, &kinds), stopped(0, Fault::TooLong, 0));
 }
 
 // A record with all sixteen fields: 1 to 16.
@@ -158,8 +166,8 @@ fn fields(rt: HostRuntime) -> Result<(), Fail> {
         field(&[8, 0, 1, 255, 255, 255, 255, 255, 255, 255, 254], 0)?,
         -2
     );
-    for i in 0..16u8 {
-        assert_eq!(rt; field(&ALL, i)?, i as i64 + 1);
+    for bit in 0..16 {
+        assert_eq!(rt; field(&ALL, bit)?, i64::from(bit) + 1);
     }
     assert_eq!(rt; field(&ALL, 16)?, 0);
     assert_eq!(rt; field(&ALL, 255)?, 0);

@@ -1,7 +1,0 @@
-use Rattle.std.proofs.Common.{ap}
-use lib.Count.{ones}
-use Rattle.records.proofs.Places.{mask_is}
-use Rattle.records.proofs.heads.ones_below.Goals as goal
-
-pub returns : goal.returns
-returns c = ap ones (mask_is c.args.map c.args.bit c.requires)
