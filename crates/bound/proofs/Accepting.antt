@@ -11,8 +11,8 @@ use Rattle.records.specs.Read.{read}
 use Rattle.records.specs.Write.{encode, padded, written, Writable}
 use Rattle.records.proofs.Writing.{reads_back}
 use Rattle.bound.specs.declared.tree.Found.TheVariants.{Branch, Leaf}
-use Rattle.bound.specs.declared.tree.Step.{Step}
-use Rattle.bound.specs.declared.tree.Step.TheVariants.{Split, Row, Close}
+use Rattle.bound.specs.declared.reader.Step.{Step}
+use Rattle.bound.specs.declared.reader.Step.TheVariants.{Split, Row, Close}
 use Rattle.bound.specs.declared.leaf.Weight.{Weight}
 use Rattle.bound.specs.Tables.{Table, Lawful, most}
 use Rattle.bound.specs.Leaves.{after, leaf_bound}

@@ -12,8 +12,8 @@ use Rattle.records.proofs.Spelling.{Own, read_own}
 use Rattle.records.proofs.Tails.{encode_more}
 use Rattle.bound.specs.declared.faults.Fault.TheVariants.{NotOneTree}
 use Rattle.bound.specs.declared.leaf.Weight.{Weight}
-use Rattle.bound.specs.declared.tree.Step.{Step}
-use Rattle.bound.specs.declared.tree.Step.TheVariants.{Split, Row, Close}
+use Rattle.bound.specs.declared.reader.Step.{Step}
+use Rattle.bound.specs.declared.reader.Step.TheVariants.{Split, Row, Close}
 use Rattle.bound.specs.Steps.{tree_kinds, step_of, stepped, step_at}
 use Rattle.bound.specs.Trees.{Tree, leaf, split, leaf_bytes, tree_bytes}
 use Rattle.bound.proofs.Outcomes.{never, inside, not_refused}

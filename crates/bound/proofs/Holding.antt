@@ -1,32 +1,44 @@
--- The turns of the search among the held variables.
-use Rattle.std.proofs.Common.{◌≡◌, ℕ, suc, ◌+◌, ◌<◌, ◌≤◌, true, false, cond, eqb, ltb, List, [], ◌∷◌, ◌++◌, length, get_or, take, drop, set, replicate, ℤ, Ok, sym, ap, ◌∙◌, subst, inl, inr, add-one, arith, length-take-le, get_or-set_other, get_or-set_same, take-suc-set, le-ltb, lt-ltb, eq-eqb, ne_eqb, le-leb}
-use lib.ListN.{length-replicate, get_or-replicate}
-use lib.Seq.{take-set-lt}
-use Rattle.std.proofs.lemmas.List.{at_drop_more, get_or_past}
-use Rattle.std.proofs.lemmas.Bool.{cases_eq, cases_lt}
+-- The search among the held variables.
+use Rattle.std.proofs.Common.{◌≡◌, ℕ, suc, ◌+◌, ◌<◌, ◌≤◌, Bool, true, false, cond, eqb, ltb, List, [], ◌∷◌, ◌++◌, length, set, ℤ, Some, None, Option, Ok, sym, refl, ap, ◌∙◌, arith, le-ltb, lt-ltb, le-leb}
+use Rattle.std.specs.Option.{option_map}
+use Rattle.std.specs.List.{find, position, position_or_len}
+use Rattle.std.proofs.lemmas.Bool.{cond-true, cond-false, ltb-true, ltb-false}
+use Rattle.std.proofs.lemmas.List.Recursion.{is_position_or_len}
+use Rattle.bound.specs.declared.faults.Fault.TheVariants.{TooDeep}
 use Rattle.bound.specs.Tables.{Small}
 use Rattle.bound.specs.declared.fixing.Held.{Held}
-use Rattle.bound.specs.Layers.{held_or, none_held, SmallRow, place, with_held, hold_answer}
+use Rattle.bound.specs.Layers.{held_or, held_at, place, with_held, barred, hold_answer}
 
-module _ (v : ℕ) (z : ℤ) (row : List Held) (i : ℕ) (d : Held) (within : i < length row) where
-  pub held_here : (get_or row i d).variable ≡ v → held_or v z (drop i row) ≡ (get_or row i d).value
-  held_here same =
-      at_drop_more (held_or v z) row i d within
-      ∙ ap (λ b. cond b (get_or row i d).value (held_or v z (drop (i + 1) row))) (eq-eqb (get_or row i d).variable v same)
+-- a variable that is held, and one that is not
+some_at : (c : Bool) (a : Held) (y rest : ℤ) (o : Option Held) → Some y ≡ option_map (λ h. h.value) (cond c (Some a) o) → (Some y ≡ option_map (λ h. h.value) o → rest ≡ y) → cond c a.value rest ≡ y
+some_at true a y rest o e later = cc
+some_at false a y rest o e later = later e
 
-  pub held_later : ((get_or row i d).variable ≡ v → ⊥) → held_or v z (drop i row) ≡ held_or v z (drop (i + 1) row)
-  held_later other =
-      at_drop_more (held_or v z) row i d within
-      ∙ ap (λ b. cond b (get_or row i d).value (held_or v z (drop (i + 1) row))) (ne_eqb (get_or row i d).variable v other)
+none_at : (c : Bool) (a : Held) (z rest : ℤ) (o : Option Held) → None ≡ option_map (λ h. h.value) (cond c (Some a) o) → (None ≡ option_map (λ h. h.value) o → rest ≡ z) → cond c a.value rest ≡ z
+none_at true a z rest o e later = cc
+none_at false a z rest o e later = later e
 
-module _ (v : ℕ) (row : List Held) (i : ℕ) (d : Held) (within : i < length row) where
-  pub place_here : (get_or row i d).variable ≡ v → place v (drop i row) ≡ 0
-  place_here same =
-      at_drop_more (place v) row i d within ∙ ap (λ b. cond b 0 (1 + place v (drop (i + 1) row))) (eq-eqb (get_or row i d).variable v same)
+pub held_some : (v : ℕ) (z y : ℤ) (hs : List Held) → Some y ≡ held_at v hs → held_or v z hs ≡ y
+held_some v z y [] e = cc
+held_some v z y (h ∷ hs) e = some_at (eqb h.variable v) h y _ (find (λ h. eqb h.variable v) hs) e (held_some v z y hs)
 
-  pub place_later : ((get_or row i d).variable ≡ v → ⊥) → place v (drop i row) ≡ 1 + place v (drop (i + 1) row)
-  place_later other =
-      at_drop_more (place v) row i d within ∙ ap (λ b. cond b 0 (1 + place v (drop (i + 1) row))) (ne_eqb (get_or row i d).variable v other)
+pub held_none : (v : ℕ) (z : ℤ) (hs : List Held) → None ≡ held_at v hs → held_or v z hs ≡ z
+held_none v z [] e = refl
+held_none v z (h ∷ hs) e = none_at (eqb h.variable v) h z _ (find (λ h. eqb h.variable v) hs) e (held_none v z hs)
+
+-- a limit of a fixing: the value of a held variable, and else the limit below
+pub limit_held : (v n : ℕ) (z y x : ℤ) (hs : List Held) → x ≡ y → Some y ≡ held_at v hs → v < n → x ≡ cond (ltb v n) (held_or v z hs) z
+limit_held v n z y x hs same held known = same ∙ sym (cond-true _ _ _ (lt-ltb v n known) ∙ held_some v z y hs held)
+
+pub limit_past : (v n : ℕ) (z x : ℤ) (hs : List Held) → x ≡ z → n ≤ v → x ≡ cond (ltb v n) (held_or v z hs) z
+limit_past v n z x hs same past = same ∙ sym (cond-false _ _ _ (le-ltb v n past))
+
+same_both : (c : Bool) (y z : ℤ) → y ≡ z → cond c y z ≡ z
+same_both true y z e = e
+same_both false y z e = refl
+
+pub limit_other : (v n : ℕ) (z x : ℤ) (hs : List Held) → x ≡ z → None ≡ held_at v hs → x ≡ cond (ltb v n) (held_or v z hs) z
+limit_other v n z x hs same other = same ∙ sym (same_both (ltb v n) (held_or v z hs) z (held_none v z hs other))
 
 pub place_le : (v : ℕ) (hs : List Held) → place v hs ≤ length hs
 place_le v [] = omega arith
@@ -34,39 +46,38 @@ place_le v (h ∷ hs) =
     let rest = place_le v hs in
     elim (eqb h.variable v) as (λ b. cond b 0 (1 + place v hs) ≤ suc (length hs)) [ true ↦ omega arith | false ↦ omega arith ]
 
--- a small value more keeps a row small
-pub small_set : (row : List Held) (i : ℕ) (h : Held) → SmallRow row → Small h.value → i < length row → SmallRow (set row i h)
-small_set row i h small here within k =
-    elim (cases_eq k i) [
-      | inl same ↦ let P : Held → Type 0 = λ x. Small x.value in subst P (sym (ap (λ j. get_or (set row i h) j none_held) same ∙ get_or-set_same row i h none_held within)) here
-      | inr other ↦ let P : Held → Type 0 = λ x. Small x.value in subst P (sym (get_or-set_other row i k h none_held other)) (small k)
-    ]
+never_some : (n : ℕ) → ◌≡◌ {A = Option ℕ} (Some n) None → ⊥
+never_some n e = let z : ◌≡◌ {A = ℕ} 0 1 = cc in omega arith
 
--- the place of h among the first of a row
-module _ (row : List Held) (count : ℕ) (h : Held) (few : count ≤ length row) (at : ℕ) (found : at ≡ place h.variable (take count row)) where
-  pub place_few : at ≤ count
-  place_few = omega (arith, place_le h.variable (take count row), length-take-le count row few)
+found_at : (n m at : ℕ) (c : Bool) → c ≡ ltb n m → Some at ≡ cond c (Some n) None → (n ≡ at) × (at < m)
+found_at n m at true is e = let same : n ≡ at = cc in (same, omega (arith, ltb-true n m (sym is)))
+found_at n m at false is e = absurd (never_some at e)
 
-  pub put_last : at ≡ count → count < length row → take (count + 1) (set row at h) ≡ with_held (take count row) h
-  put_last last within =
-      let hs = take count row in
-      let none : ltb (place h.variable hs) (length hs) ≡ false = le-ltb _ _ (omega (arith, length-take-le count row few)) in
-      ap (λ i. take (count + 1) (set row i h)) last ∙ rw add-one (take-suc-set row count h within)
-      ∙ sym (ap (λ b. cond b (set hs (place h.variable hs) h) (hs ++ (h ∷ []))) none)
+none_found : (n m : ℕ) (c : Bool) → c ≡ ltb n m → None ≡ cond c (Some n) None → m ≤ n
+none_found n m true is e = absurd (never_some n (sym e))
+none_found n m false is e = ltb-false n m (sym is)
 
-  pub put_again : (at ≡ count → ⊥) → take count (set row at h) ≡ with_held (take count row) h
-  put_again other =
-      let hs = take count row in
-      let below : at < count = omega (arith, place_few) in
-      let some : ltb (place h.variable hs) (length hs) ≡ true = lt-ltb _ _ (omega (arith, length-take-le count row few)) in
-      take-set-lt count row at h below ∙ ap (λ i. set hs i h) found
-      ∙ sym (ap (λ b. cond b (set hs (place h.variable hs) h) (hs ++ (h ∷ []))) some)
+-- where a variable is held, and where it would be put
+module _ (v : ℕ) (hs : List Held) where
+  first : place v hs ≡ position_or_len (λ h. eqb h.variable v) hs
+  first = is_position_or_len (place v) (λ h. eqb h.variable v) refl (λ x xs. refl) hs
+
+  pub place_some : (at : ℕ) → Some at ≡ position (λ h. eqb h.variable v) hs → (place v hs ≡ at) × (at < length hs)
+  place_some at e = let h = found_at _ (length hs) at _ refl e in (first ∙ h.0, h.1)
+
+  pub place_none : None ≡ position (λ h. eqb h.variable v) hs → place v hs ≡ length hs
+  place_none e = let h = none_found _ (length hs) _ refl e in omega (arith, first, place_le v hs)
+
+-- h in its place, and h where its variable is not held
+pub put_again : (hs : List Held) (h : Held) (at : ℕ) → place h.variable hs ≡ at → at < length hs → set hs at h ≡ with_held hs h
+put_again hs h at is within = ap (λ i. set hs i h) (sym is) ∙ sym (cond-true _ _ _ (lt-ltb (place h.variable hs) (length hs) (omega arith)))
+
+pub put_last : (hs : List Held) (h : Held) → place h.variable hs ≡ length hs → hs ++ h ∷ [] ≡ with_held hs h
+put_last hs h free = sym (cond-false _ _ _ (le-ltb (place h.variable hs) (length hs) (omega arith)))
 
 -- nothing stands in the way
 pub may_hold : (n : ℕ) (hs : List Held) (h : Held) → Small h.value → h.variable < n → place h.variable hs < 64 → Ok tt ≡ hold_answer n hs h
 may_hold n hs h small known free = sym (simp (le-leb _ _ small, lt-ltb _ _ known, lt-ltb _ _ free))
 
-pub small_none : (n : ℕ) → SmallRow (replicate n none_held)
-small_none n k =
-    let P : Held → Type 0 = λ x. Small x.value in
-    elim (cases_lt k n) [ inl within ↦ subst P (sym (get_or-replicate n k none_held none_held within)) (omega arith) | inr past ↦ subst P (sym (get_or_past _ k none_held (simp length-replicate past))) (omega arith) ]
+pub no_room : (n : ℕ) (hs : List Held) (h : Held) → Small h.value → h.variable < n → 64 ≤ place h.variable hs → barred TooDeep h ≡ hold_answer n hs h
+no_room n hs h small known full = sym (simp (le-leb _ _ small, lt-ltb _ _ known, le-ltb _ _ full))

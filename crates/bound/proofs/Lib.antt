@@ -3,8 +3,11 @@ pub mod Parts
 pub mod Duality
 pub mod Holding
 pub mod Copies
+pub mod Sheeted
+pub mod FixedRows
 pub mod Reading
 pub mod Outcomes
+pub mod Rows
 pub mod Walks
 pub mod Descent
 pub mod Paths

@@ -7,8 +7,8 @@ use Rattle.bound.specs.declared.faults.Fault.TheVariants.{Record, NotOneTree, To
 use Rattle.records.specs.declared.Refusal.{Refusal as RecordRefusal}
 use Rattle.bound.specs.declared.faults.Refusal.{Refusal}
 use Rattle.bound.specs.Faults.{from_records}
-use Rattle.bound.specs.declared.tree.Step.{Step}
-use Rattle.bound.specs.declared.tree.Step.TheVariants.{Split, Row, Close}
+use Rattle.bound.specs.declared.reader.Step.{Step}
+use Rattle.bound.specs.declared.reader.Step.TheVariants.{Split, Row, Close}
 use Rattle.bound.specs.declared.tree.Found.{Found}
 use Rattle.bound.specs.declared.tree.Found.TheVariants.{Branch, Leaf}
 use Rattle.bound.specs.declared.leaf.Weight.{Weight}

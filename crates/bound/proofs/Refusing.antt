@@ -18,8 +18,8 @@ use Rattle.bound.specs.declared.faults.Refusal.{Refusal}
 use Rattle.bound.specs.declared.leaf.Weight.{Weight}
 use Rattle.bound.specs.declared.tree.Found.{Found}
 use Rattle.bound.specs.declared.tree.Found.TheVariants.{Branch, Leaf}
-use Rattle.bound.specs.declared.tree.Step.{Step}
-use Rattle.bound.specs.declared.tree.Step.TheVariants.{Split, Row, Close}
+use Rattle.bound.specs.declared.reader.Step.{Step}
+use Rattle.bound.specs.declared.reader.Step.TheVariants.{Split, Row, Close}
 use Rattle.bound.specs.Tables.{Table, most}
 use Rattle.bound.specs.Leaves.{leaf_bound}
 use Rattle.bound.specs.Layers.{holding}

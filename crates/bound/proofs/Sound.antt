@@ -9,8 +9,8 @@ use Rattle.records.specs.declared.Fault.TheVariants.{TooLong}
 use Rattle.bound.specs.declared.faults.Refusal.{Refusal}
 use Rattle.bound.specs.declared.tree.Found.{Found}
 use Rattle.bound.specs.declared.tree.Found.TheVariants.{Branch, Leaf}
-use Rattle.bound.specs.declared.tree.Step.{Step}
-use Rattle.bound.specs.declared.tree.Step.TheVariants.{Split, Row, Close}
+use Rattle.bound.specs.declared.reader.Step.{Step}
+use Rattle.bound.specs.declared.reader.Step.TheVariants.{Split, Row, Close}
 use Rattle.bound.specs.declared.leaf.Weight.{Weight}
 use Rattle.bound.specs.Tables.{Table}
 use Rattle.bound.specs.Leaves.{after, leaf_bound}

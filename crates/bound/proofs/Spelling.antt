@@ -1,7 +1,7 @@
 -- The steps of a tree, in the order of its file.
 use Rattle.std.proofs.Common.{◌≡◌, ℕ, List, [], ◌∷◌, pos, Ok}
 use Rattle.bound.specs.declared.leaf.Weight.{Weight}
-use Rattle.bound.specs.declared.tree.Step.TheVariants.{Split, Row, Close}
+use Rattle.bound.specs.declared.reader.Step.TheVariants.{Split, Row, Close}
 use Rattle.bound.specs.Steps.{step_at}
 use Rattle.bound.specs.Trees.{Tree, leaf, split}
 

@@ -1,4 +1,5 @@
 -- The number and the layer of each fault.
+use Rattle.std.specs.Prelude.{ℕ, List, ◌++◌, codes, decimal}
 use Rattle.records.specs.Faults.{Code, code as record_code}
 use Rattle.records.specs.declared.Refusal.{Refusal as RecordRefusal}
 use Rattle.bound.specs.declared.faults.Fault.{Fault}
@@ -19,3 +20,7 @@ code TooLarge = record { number = 25; layer = 4 }
 -- a refusal of the records, carried up unaltered
 abbrev pub from_records : RecordRefusal → Refusal
 from_records e = record { fault = Record e.fault; place = e.place }
+
+-- a refusal as it is printed: the fault's number, and the place
+abbrev pub refusal_text : Refusal → List ℕ
+refusal_text e = decimal (code e.fault).number ++ (codes " at " ++ decimal e.place)

@@ -1,9 +1,10 @@
 -- Variables held at a value, over a table.
-use Rattle.std.specs.Prelude.{ℕ, ◌+◌, ◌-◌, true, false, cond, List, [], ◌∷◌, ◌++◌, length, take, ℤ, pos, ◌≤ℤ◌, Ok, Err, Result, ◌==◌, nat_le, nat_lt, slice_index_or, slice_set, unsigned_abs}
+use Rattle.std.specs.Prelude.{ℕ, ◌+◌, ◌-◌, true, false, cond, List, [], ◌∷◌, ◌++◌, length, take, ℤ, pos, ◌≤ℤ◌, Ok, Err, Option, Result, ◌==◌, option_map, nat_le, nat_lt, slice_index_or, slice_set, unsigned_abs}
 use Rattle.std.specs.Int.Signed.{≤ℤ_refl}
 use Rattle.std.proofs.Common.{le-ltb}
-use Rattle.std.specs.List.{AllByRecursion}
-use Rattle.std.proofs.ByRecursion.{All-take, All-from_get_or}
+use Rattle.std.specs.List.{AllByRecursion, find}
+use Rattle.std.proofs.ByRecursion.{All-from_get_or}
+use Rattle.arrayvec.specs.ArrayVec.{ArrayVec}
 use Rattle.bound.specs.declared.faults.Fault.{Fault}
 use Rattle.bound.specs.declared.faults.Fault.TheVariants.{OutsideLimits, Absent, TooDeep}
 use Rattle.bound.specs.declared.faults.Refusal.{Refusal}
@@ -18,6 +19,10 @@ SmallHeld h = Small h.value
 abbrev pub held_or : ℕ → ℤ → List Held → ℤ
 held_or v z [] = z
 held_or v z (h ∷ hs) = cond (h.variable == v) h.value (held_or v z hs)
+
+-- what v is held at, if it is
+abbrev pub held_at : ℕ → List Held → Option ℤ
+held_at v hs = option_map (λ h. h.value) (find (λ h. h.variable == v) hs)
 
 -- both limits of a held variable are its value
 abbrev pub fixed : Table → List Held → Table
@@ -88,13 +93,12 @@ none_held = record { variable = 0; value = pos 0 }
 abbrev pub SmallRow : List Held → Type 0
 SmallRow row = (k : ℕ) → Small (slice_index_or row k none_held).value
 
--- the first of a row are held
-abbrev pub fixed_by : Table → ℕ → List Held → Table
-fixed_by t count row = fixed t (take count row)
+-- all of a row are held
+abbrev pub fixed_by : Table → ArrayVec Held → Table
+fixed_by t row = fixed t row.items
 
-pub fixed_by_lawful : (t : Table) (count : ℕ) (row : List Held) → Lawful t → SmallRow row → Lawful (fixed_by t count row)
-fixed_by_lawful t count row l small =
-    fixed_lawful t (take count row) l (All-take SmallHeld count row (All-from_get_or SmallHeld row none_held (λ k h. small k)))
+pub fixed_by_lawful : (t : Table) (row : ArrayVec Held) → Lawful t → SmallRow row.items → Lawful (fixed_by t row)
+fixed_by_lawful t row l small = fixed_lawful t row.items l (All-from_get_or SmallHeld row.items none_held (λ k h. small k))
 
 -- where v is held, or how many are held
 abbrev pub place : ℕ → List Held → ℕ

@@ -1,5 +1,5 @@
 -- What a fixing holds, and over what.
-use Rattle.std.specs.Prelude.{◌≡◌, ℕ, ◌<◌, List, take}
+use Rattle.std.specs.Prelude.{◌≡◌, ℕ, ◌<◌, List, length}
 use Rattle.bound.specs.declared.fixing.Fixing.{Fixing}
 use Rattle.bound.specs.declared.fixing.Held.{Held}
 use Rattle.bound.specs.Layers.{place}
@@ -7,11 +7,11 @@ use Rattle.bound.specs.Layers.{place}
 module _ {P : Type 0} where
   -- what is held, in the order in which it was first held
   abbrev pub held_of : Fixing P → List Held
-  held_of f = take f.count f.row
+  held_of f = f.row.items
 
   -- how many are held
   abbrev pub count_of : Fixing P → ℕ
-  count_of f = f.count
+  count_of f = length f.row.items
 
   -- the programme below
   abbrev pub below_of : Fixing P → P

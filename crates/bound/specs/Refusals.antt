@@ -9,8 +9,8 @@ use Rattle.bound.specs.declared.faults.Fault.{Fault}
 use Rattle.bound.specs.declared.faults.Fault.TheVariants.{Record, OutsideLimits, Absent, NotRising, SplitBarred, TooDeep, NotOneTree, TooLarge}
 use Rattle.bound.specs.declared.faults.Refusal.{Refusal}
 use Rattle.bound.specs.declared.leaf.Weight.{Weight}
-use Rattle.bound.specs.declared.tree.Step.{Step}
-use Rattle.bound.specs.declared.tree.Step.TheVariants.{Split, Row, Close}
+use Rattle.bound.specs.declared.reader.Step.{Step}
+use Rattle.bound.specs.declared.reader.Step.TheVariants.{Split, Row, Close}
 use Rattle.bound.specs.Tables.{Table, most}
 use Rattle.bound.specs.Leaves.{leaf_bound}
 use Rattle.bound.specs.Layers.{holding}

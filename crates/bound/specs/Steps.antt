@@ -6,8 +6,8 @@ use Rattle.records.specs.declared.Kind.{Kind}
 use Rattle.bound.specs.declared.faults.Fault.{Fault}
 use Rattle.bound.specs.declared.faults.Fault.TheVariants.{Record, NotOneTree}
 use Rattle.bound.specs.declared.faults.Refusal.{Refusal}
-use Rattle.bound.specs.declared.tree.Step.{Step}
-use Rattle.bound.specs.declared.tree.Step.TheVariants.{Split, Row, Close}
+use Rattle.bound.specs.declared.reader.Step.{Step}
+use Rattle.bound.specs.declared.reader.Step.TheVariants.{Split, Row, Close}
 
 -- the kinds of record of a tree file, each with how many fields it has: a split's variable; a row and its weight; the close of a leaf
 abbrev pub tree_kinds : List Kind

@@ -1,35 +1,34 @@
 // Sums and products that are held to ±10^18: `None` where one is past it.
-ghost use Rattle.std.specs.Prelude.{◌≡◌};
-ghost use Rattle.bound.specs.Leaves.{kept, times, plus, less, more, fewer};
+ghost use Rattle.std.specs.Prelude.{◌≡◌, nat_le, unsigned_abs};
+ghost use Rattle.bound.specs.Tables.{most};
+ghost use Rattle.bound.specs.Leaves.{times, plus, less, more, fewer};
 
 // The greatest magnitude of a number that is asked for, or computed with.
-pub(crate) const MOST: i128 = 1_000_000_000_000_000_000;
+pub(crate) const MOST: i64 = 1_000_000_000_000_000_000;
 
-fn within(z: i128) -> Option<i64>
-    ensures { result ≡ kept z }
+// The numbers of that magnitude at most.
+pub(crate) fn is_small(z: &i64) -> bool
+    ensures { result ≡ nat_le (unsigned_abs z.now) most }
 {
-    if z < -MOST || z > MOST {
-        return None;
-    }
-    Some(z as i64)
+    (-MOST..=MOST).contains(z)
 }
 
 pub(crate) fn product(a: i64, b: i64) -> Option<i64>
     ensures { result ≡ times a b }
 {
-    within(a as i128 * b as i128)
+    a.checked_mul(b).filter(is_small)
 }
 
 pub(crate) fn sum(a: i64, b: i64) -> Option<i64>
     ensures { result ≡ plus a b }
 {
-    within(a as i128 + b as i128)
+    a.checked_add(b).filter(is_small)
 }
 
 fn difference(a: i64, b: i64) -> Option<i64>
     ensures { result ≡ less a b }
 {
-    within(a as i128 - b as i128)
+    a.checked_sub(b).filter(is_small)
 }
 
 // The total and a product more.

@@ -5,7 +5,7 @@ ghost use Rattle.bound.specs.Tables.{Small};
 ghost use Rattle.bound.specs.Points.{Bounds};
 ghost use Rattle.bound.specs.Layers.{fixed, holding};
 ghost use Rattle.bound.specs.Paths.{held_of, count_of, below_of, Free, SamePath};
-ghost use Rattle.bound.specs.Checks.{allowed, node_at, finished, checked, Gives, OverTree};
+ghost use Rattle.bound.specs.Checks.{allowed, node_at, finished, checked, Gives};
 ghost use Rattle.bound.specs.Trees.{Proves, Accepts};
 ghost use Rattle.bound.specs.Refusals.{Refused, refused_by};
 ghost use Rattle.bound.specs.Piles.{EveryPileIsBounded};
@@ -13,119 +13,93 @@ ghost use Rattle.bound.specs.Piles.{EveryPileIsBounded};
 use crate::faults::{Fault, Refusal};
 use crate::fixing::Fixing;
 use crate::programme::Programme;
+use crate::reader::TreeReader;
 use crate::sheet::LimitSheet;
 use crate::tree::{Found, open};
-use records::{Kind, Reader};
 
 // The most splits on a path.
 const DEEPEST: usize = 64;
-
-// The records of a tree file: a split's variable; a row and its weight; the close of a leaf.
-const TREE_KINDS: [Kind; 3] = [
-    Kind {
-        number: 8,
-        fields: 1,
-    },
-    Kind {
-        number: 9,
-        fields: 2,
-    },
-    Kind {
-        number: 10,
-        fields: 0,
-    },
-];
 
 // Whether a split may be on the variable.
 fn may_split<P: Programme>(programme: &P, variable: usize) -> bool
     ensures { result ≡ allowed (P.table programme.now) variable }
 {
-    let (low, high) = programme.limits(variable);
-    programme.whole(variable) && low == 0 && high == 1
+    programme.whole(variable) && programme.limits(variable) == (0, 1)
 }
 
-// The bound of the node at the reader's place, below `depth` splits.
-#[cycle(node_side)]
-fn node<P: Programme>(
-    reader: &mut Reader,
-    fixing: &mut Fixing<P>,
-    depth: usize,
-) -> Result<i64, Refusal>
-    requires { (depth ≡ count_of fixing.old) × (OverTree reader.old) }
-    ensures file { file_of reader.new ≡ file_of reader.old }
-    ensures over { OnOk result (OverTree reader.new) }
-    ensures path { OnOk result (SamePath fixing.old fixing.new) }
-    ensures gives { Gives (node_at (64 - count_of fixing.old) (fixed (P.table (below_of fixing.old)) (held_of fixing.old)) (file_of reader.old) (place_of reader.old)) result (place_of reader.new) }
-{
-    let place = reader.place();
-    match open(reader, &*fixing)? {
-        Found::Branch(variable) => {
-            if !may_split(&*fixing, variable) {
-                return Err(Refusal {
-                    fault: Fault::SplitBarred,
-                    place,
-                });
+// The way down a tree: the reader of its file, and the variables that the splits of the path hold over a pile.
+#[derive(Drop)]
+struct Descent<'f, 'p, P> {
+    reader: TreeReader<'f>,
+    fixing: Fixing<'p, P>,
+}
+
+impl<'f, 'p, P: Programme> Descent<'f, 'p, P> {
+    // The bound of the node at the reader's place, below the splits that are held.
+    #[cycle(node_side)]
+    fn node(&mut self) -> Result<i64, Refusal>
+        ensures file { file_of self.new.reader.reader ≡ file_of self.old.reader.reader }
+        ensures path { OnOk result (SamePath self.old.fixing self.new.fixing) }
+        ensures gives { Gives (node_at (64 - count_of self.old.fixing) (fixed (P.Programme.table (below_of self.old.fixing)) (held_of self.old.fixing)) (file_of self.old.reader.reader) (place_of self.old.reader.reader)) result (place_of self.new.reader.reader) }
+    {
+        let place = self.reader.place();
+        match open(&mut self.reader, &self.fixing)? {
+            Found::Branch(variable) => {
+                if !may_split(&self.fixing, variable) {
+                    return Err(Fault::SplitBarred.at(place));
+                }
+                if self.fixing.count() == DEEPEST {
+                    return Err(Fault::TooDeep.at(place));
+                }
+                let off = self.side(variable, 0)?;
+                let on = self.side(variable, 1)?;
+                Ok(off.max(on))
             }
-            if depth == DEEPEST {
-                return Err(Refusal {
-                    fault: Fault::TooDeep,
-                    place,
-                });
-            }
-            let off = side(reader, fixing, depth, variable, 0)?;
-            let on = side(reader, fixing, depth, variable, 1)?;
-            Ok(off.max(on))
+            Found::Leaf(bound) => Ok(bound),
         }
-        Found::Leaf(bound) => Ok(bound),
     }
-}
 
-// The bound of one side of a split, which holds the variable at the value to the side's end.
-#[cycle(node_side)]
-fn side<P: Programme>(
-    reader: &mut Reader,
-    fixing: &mut Fixing<P>,
-    depth: usize,
-    variable: usize,
-    value: i64,
-) -> Result<i64, Refusal>
-    requires { (Free (P.table (below_of fixing.old)).variables fixing.old variable) × ((Small value) × ((depth ≡ count_of fixing.old) × (OverTree reader.old))) }
-    ensures file { file_of reader.new ≡ file_of reader.old }
-    ensures over { OnOk result (OverTree reader.new) }
-    ensures path { OnOk result (SamePath fixing.old fixing.new) }
-    ensures gives { Gives (node_at (63 - count_of fixing.old) (holding (fixed (P.table (below_of fixing.old)) (held_of fixing.old)) variable value) (file_of reader.old) (place_of reader.old)) result (place_of reader.new) }
-{
-    // It is known and free, so it can be held.
-    let Ok(_) = fixing.hold(variable, value) else {
-        unreachable();
-    };
-    let bound = node(reader, fixing, depth + 1)?;
-    fixing.release();
-    Ok(bound)
-}
-
-// The bound of a whole tree, unless bytes stand after it.
-fn finish(reader: &Reader, bound: i64) -> Result<i64, Refusal>
-    ensures { result ≡ finished (file_of reader.now) bound (place_of reader.now) }
-{
-    if !reader.at_end() {
-        return Err(Refusal {
-            fault: Fault::NotOneTree,
-            place: reader.place(),
-        });
+    // The bound of one side of a split, which holds the variable at the value to the side's end.
+    #[cycle(node_side)]
+    fn side(&mut self, variable: usize, value: i64) -> Result<i64, Refusal>
+        requires free { Free (P.Programme.table (below_of self.old.fixing)).variables self.old.fixing variable }
+        requires small { Small value }
+        ensures file { file_of self.new.reader.reader ≡ file_of self.old.reader.reader }
+        ensures path { OnOk result (SamePath self.old.fixing self.new.fixing) }
+        ensures gives { Gives (node_at (63 - count_of self.old.fixing) (holding (fixed (P.Programme.table (below_of self.old.fixing)) (held_of self.old.fixing)) variable value) (file_of self.old.reader.reader) (place_of self.old.reader.reader)) result (place_of self.new.reader.reader) }
+    {
+        // It is known and free, so it can be held.
+        let Ok(_) = self.fixing.hold(variable, value) else {
+            unreachable();
+        };
+        let bound = self.node()?;
+        self.fixing.release();
+        Ok(bound)
     }
-    Ok(bound)
+
+    // The bound of a whole tree, unless bytes stand after it.
+    fn finish(&self, bound: i64) -> Result<i64, Refusal>
+        ensures { result ≡ finished (file_of self.now.reader.reader) bound (place_of self.now.reader.reader) }
+    {
+        if !self.reader.at_end() {
+            return Err(Fault::NotOneTree.at(self.reader.place()));
+        }
+        Ok(bound)
+    }
 }
 
 // The bound of the tree that the file is, over an empty fixing over a sheet over the pile.
 fn walk<P: Programme>(pile: &P, file: &[u8]) -> Result<i64, Refusal>
     ensures { result ≡ checked (P.table pile.now) file.now }
 {
-    let mut reader = Reader::open(file, &TREE_KINDS)?;
+    let reader = TreeReader::open(file)?;
     let sheet = LimitSheet::of(pile);
-    let mut fixing = Fixing::over(&sheet);
-    let bound = node(&mut reader, &mut fixing, 0)?;
-    finish(&reader, bound)
+    let mut descent = Descent {
+        reader,
+        fixing: Fixing::over(&sheet),
+    };
+    let bound = descent.node()?;
+    descent.finish(bound)
 }
 
 // The bound that the tree of a file proves of the pile:
@@ -144,7 +118,8 @@ pub fn check<P: Programme>(pile: &P, file: &[u8]) -> Result<i64, Refusal>
     walk(pile, file)
 }
 
-// The same of every lawful table under any pile of layers, with no programme at hand.
+// The same of every lawful table under any pile of layers, with no programme at hand. Its answer says nothing: what it
+// promises is the law.
 pub fn every_pile_is_bounded() -> bool
     ensures { EveryPileIsBounded }
 {

@@ -1,8 +1,10 @@
 // Why a tree, or a value to hold, is refused.
-ghost use Rattle.std.specs.Prelude.{◌≡◌};
-ghost use Rattle.bound.specs.Faults.{code, from_records};
+ghost use Rattle.std.specs.Prelude.{◌≡◌, Some};
+ghost use Rattle.bound.specs.Faults.{code, from_records, refusal_text};
 
-#[derive(Clone, Copy)]
+use std::fmt;
+
+#[derive(Clone, Copy, Debug, PartialEq, Eq)]
 pub enum Fault {
     // a fault of the file's records
     Record(records::Fault),
@@ -23,13 +25,28 @@ pub enum Fault {
 }
 
 // What is wrong, and where: the offset of a record in the file, or a variable.
-#[derive(Clone, Copy)]
+// Each crate that refuses has such a struct of its own: between two instances of one `Refusal<F>` of a crate below,
+// the orphan rule leaves a crate above no `From`, and so no `?`.
+#[derive(Clone, Copy, Debug, PartialEq, Eq)]
 pub struct Refusal {
     pub fault: Fault,
     pub place: usize,
 }
 
+// The layers of numbers and of trees.
+const ENTRIES: u8 = 2;
+
+const TREES: u8 = 4;
+
 impl Fault {
+    // The refusal for this fault at this place.
+    pub(crate) fn at(self, place: usize) -> Refusal
+        ensures { result ≡ record { fault = self; place = place } }
+    {
+        Refusal { fault: self, place }
+    }
+
+    // By cases: a fault of the records has its number there.
     pub fn number(self) -> u8
         ensures { result ≡ (code self).number }
     {
@@ -50,9 +67,20 @@ impl Fault {
     {
         match self {
             Fault::Record(fault) => fault.layer(),
-            Fault::OutsideLimits | Fault::Absent | Fault::NotRising => 2,
-            Fault::SplitBarred | Fault::TooDeep | Fault::NotOneTree | Fault::TooLarge => 4,
+            Fault::OutsideLimits | Fault::Absent | Fault::NotRising => ENTRIES,
+            Fault::SplitBarred | Fault::TooDeep | Fault::NotOneTree | Fault::TooLarge => TREES,
         }
+    }
+}
+
+// The fault's number, and the place.
+impl fmt::Display for Refusal {
+    ghost output = { λ e. Some (refusal_text e) };
+
+    fn fmt<W: fmt::Write>(&self, f: &mut fmt::Formatter<W>) -> fmt::Result {
+        let number = self.fault.number();
+        let place = self.place;
+        write!(f, "{number} at {place}")
     }
 }
 
@@ -61,9 +89,6 @@ impl From<records::Refusal> for Refusal {
     ghost from_gives = { λ e r. r ≡ from_records e };
 
     fn from(e: records::Refusal) -> Refusal {
-        Refusal {
-            fault: Fault::Record(e.fault),
-            place: e.place,
-        }
+        Fault::Record(e.fault).at(e.place)
     }
 }

@@ -1,10 +1,11 @@
 // A programme below, with some variables held at a value.
 ghost use Rattle.std.specs.Prelude.{◌≡◌, ◌≤◌, length};
-ghost use Rattle.bound.specs.Layers.{SmallRow, held_or, fixed_by, fixed_by_lawful};
+ghost use Rattle.bound.specs.Layers.{SmallRow, held_at, fixed_by, fixed_by_lawful};
 
 use crate::programme::Programme;
+use arrayvec::ArrayVec;
 
-#[derive(Clone, Copy)]
+#[derive(Clone, Copy, Default)]
 pub(crate) struct Held {
     pub(crate) variable: usize,
     pub(crate) value: i64,
@@ -14,34 +15,28 @@ pub(crate) struct Held {
 #[derive(Drop)]
 pub struct Fixing<'a, P> {
     pub(crate) below: &'a P,
-    pub(crate) row: [Held; 64],
-    pub(crate) count: usize,
-    ghost few: { count ≤ 64 },
-    ghost long: { length row ≡ 64 },
-    ghost small: { SmallRow row },
+    pub(crate) row: ArrayVec<Held, 64>,
+    ghost few: { length row.items ≤ 64 },
+    ghost small: { SmallRow row.items },
 }
 
-// The value that the variable is held at, or the other.
-fn held_or(row: &[Held], v: usize, other: i64) -> i64
-    ensures { result ≡ held_or v other row.now }
+// The value that the variable is held at, if it is.
+fn held_at(row: &[Held], v: usize) -> Option<i64>
+    ensures { result ≡ held_at v row.now }
 {
-    for h in row {
-        if h.variable == v {
-            return h.value;
-        }
-    }
-    other
+    row.iter().find(|h| h.variable == v).map(|h| h.value)
 }
 
-// Both limits of a held variable are its value; all else is as below.
+// Both limits of a held variable are its value; all else is as below, asked question by question: a body in the trait
+// could not know what is below.
 impl<'a, P: Programme> Programme for Fixing<'a, P> {
     const SCALE: i64 = P::SCALE;
 
     const VARIABLES: usize = P::VARIABLES;
 
-    ghost table = { λ f. fixed_by (P.Programme.table f.below.now) f.count f.row };
+    ghost table = { λ f. fixed_by (P.Programme.table f.below.now) f.row };
 
-    ghost lawful = { λ f. fixed_by_lawful (P.Programme.table f.below.now) f.count f.row (P.Programme.lawful f.below.now) f.small };
+    ghost lawful = { λ f. fixed_by_lawful (P.Programme.table f.below.now) f.row (P.Programme.lawful f.below.now) f.small };
 
     fn scale_value(&self) -> i64 {
         self.below.scale_value()
@@ -56,12 +51,9 @@ impl<'a, P: Programme> Programme for Fixing<'a, P> {
     }
 
     fn limits(&self, v: usize) -> (i64, i64) {
-        let (low, high) = self.below.limits(v);
-        if v < self.below.variable_count() {
-            let held = &self.row[0..self.count];
-            (held_or(held, v, low), held_or(held, v, high))
-        } else {
-            (low, high)
+        match held_at(self.row.as_slice(), v) {
+            Some(value) if v < self.below.variable_count() => (value, value),
+            _ => self.below.limits(v),
         }
     }
 

@@ -1,26 +1,19 @@
 // Holding and releasing the variables of a fixing.
-ghost use Rattle.std.specs.Prelude.{◌≡◌, []};
-ghost use Rattle.bound.specs.Layers.{place, hold_answer, hold_after, without_last};
-ghost use Rattle.bound.specs.Paths.{held_of, below_of};
+ghost use Rattle.std.specs.Prelude.{◌≡◌, ◌==◌, [], position};
+ghost use Rattle.bound.specs.Layers.{hold_answer, hold_after, without_last};
+ghost use Rattle.bound.specs.Paths.{held_of, count_of, below_of};
 
-use crate::arithmetic::MOST;
+use crate::arithmetic::is_small;
 use crate::faults::{Fault, Refusal};
 use crate::fixing::{Fixing, Held};
 use crate::programme::Programme;
+use arrayvec::ArrayVec;
 
-// The most variables that may be held.
-const MOST_HELD: usize = 64;
-
-// Where the variable is held, or how many are.
-fn place_of(row: &[Held], v: usize) -> usize
-    ensures { result ≡ place v row.now }
+// Where the variable is held, if it is.
+fn place_of(row: &[Held], v: usize) -> Option<usize>
+    ensures { result ≡ position (λ h. h.variable == v) row.now }
 {
-    for (i, h) in row.iter().enumerate() {
-        if h.variable == v {
-            return i;
-        }
-    }
-    row.len()
+    row.iter().position(|h| h.variable == v)
 }
 
 impl<'a, P: Programme> Fixing<'a, P> {
@@ -31,12 +24,15 @@ impl<'a, P: Programme> Fixing<'a, P> {
     {
         Fixing {
             below,
-            row: [Held {
-                variable: 0,
-                value: 0,
-            }; 64],
-            count: 0,
+            row: ArrayVec::new(),
         }
+    }
+
+    // How many variables are held.
+    pub(crate) fn count(&self) -> usize
+        ensures { result ≡ count_of self.now }
+    {
+        self.row.len()
     }
 
     // Holds the variable at the value; one that is held already takes the new value in its place.
@@ -45,28 +41,17 @@ impl<'a, P: Programme> Fixing<'a, P> {
         ensures held { held_of self.new ≡ hold_after result (held_of self.old) (record { variable = v; value = value }) }
         ensures below { below_of self.new ≡ below_of self.old }
     {
-        if (value as i128) < -MOST || value as i128 > MOST {
-            return Err(Refusal {
-                fault: Fault::OutsideLimits,
-                place: v,
-            });
+        if !is_small(&value) {
+            return Err(Fault::OutsideLimits.at(v));
         }
         if v >= self.below.variable_count() {
-            return Err(Refusal {
-                fault: Fault::Absent,
-                place: v,
-            });
+            return Err(Fault::Absent.at(v));
         }
-        let at = place_of(&self.row[0..self.count], v);
-        if at == MOST_HELD {
-            return Err(Refusal {
-                fault: Fault::TooDeep,
-                place: v,
-            });
-        }
-        self.row[at] = Held { variable: v, value };
-        if at == self.count {
-            self.count += 1;
+        let held = Held { variable: v, value };
+        match place_of(self.row.as_slice(), v) {
+            Some(at) => self.row[at] = held,
+            None if self.row.is_full() => return Err(Fault::TooDeep.at(v)),
+            None => self.row.push(held),
         }
         Ok(())
     }
@@ -76,8 +61,6 @@ impl<'a, P: Programme> Fixing<'a, P> {
         ensures held { held_of self.new ≡ without_last (held_of self.old) }
         ensures below { below_of self.new ≡ below_of self.old }
     {
-        if self.count > 0 {
-            self.count -= 1;
-        }
+        self.row.pop();
     }
 }

@@ -9,6 +9,7 @@ mod fixing;
 mod holds;
 mod leaf;
 mod programme;
+mod reader;
 mod sheet;
 mod tree;
 

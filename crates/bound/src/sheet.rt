@@ -1,34 +1,45 @@
 // A programme below, with its limits and whole marks kept at hand.
 ghost use Rattle.std.specs.Prelude.{◌≡◌};
-ghost use Rattle.bound.specs.Sheets.{Ordered, SmallLow, SmallHigh, sheeted, sheeted_lawful};
+ghost use Rattle.bound.specs.Sheets.{line_of, Copied, sheeted};
 
 use crate::programme::Programme;
+use std::array;
 
 // The limits and the whole mark of one variable.
-#[derive(Clone, Copy)]
+#[derive(Clone, Copy, Default)]
 pub(crate) struct Line {
     low: i64,
     high: i64,
     whole: bool,
 }
 
-#[derive(Drop)]
-pub struct LimitSheet<'a, P> {
-    below: &'a P,
-    lines: [Line; 256],
-    ghost ordered: { Ordered lines },
-    ghost smalllow: { SmallLow lines },
-    ghost smallhigh: { SmallHigh lines },
+// The line that a programme answers for the variable.
+fn line_of<P: Programme>(programme: &P, v: usize) -> Line
+    ensures { result ≡ line_of (P.table programme.now) v }
+{
+    let (low, high) = programme.limits(v);
+    let whole = programme.whole(v);
+    Line { low, high, whole }
 }
 
+// Its type says that its lines are those of what is below, beyond the variables too.
+#[derive(Drop)]
+pub struct LimitSheet<'a, P: Programme> {
+    below: &'a P,
+    lines: [Line; 256],
+    ghost copied: { Copied (P.Programme.table below.now) lines },
+}
+
+// It means the same as what is below; the limits and the marks are answered from the lines, and all else is asked below,
+// question by question: a body in the trait could not know what is below.
 impl<'a, P: Programme> Programme for LimitSheet<'a, P> {
     const SCALE: i64 = P::SCALE;
 
     const VARIABLES: usize = P::VARIABLES;
 
-    ghost table = { λ s. sheeted (P.Programme.table s.below.now) s.lines };
+    ghost table = { λ s. P.Programme.table s.below.now };
 
-    ghost lawful = { λ s. sheeted_lawful (P.Programme.table s.below.now) s.lines (P.Programme.lawful s.below.now) s.ordered s.smalllow s.smallhigh };
+    ghost lawful = { λ s. P.Programme.lawful s.below.now };
 
     fn scale_value(&self) -> i64 {
         self.below.scale_value()
@@ -43,15 +54,12 @@ impl<'a, P: Programme> Programme for LimitSheet<'a, P> {
     }
 
     fn limits(&self, v: usize) -> (i64, i64) {
-        if v < self.below.variable_count() {
-            (self.lines[v].low, self.lines[v].high)
-        } else {
-            (0, 0)
-        }
+        let line = self.line(v);
+        (line.low, line.high)
     }
 
     fn whole(&self, v: usize) -> bool {
-        v < self.below.variable_count() && self.lines[v].whole
+        self.line(v).whole
     }
 
     fn objective(&self, v: usize) -> i64 {
@@ -68,21 +76,21 @@ impl<'a, P: Programme> Programme for LimitSheet<'a, P> {
 }
 
 impl<'a, P: Programme> LimitSheet<'a, P> {
-    // A sheet that means the same as what is below: its table is the table below.
+    // A sheet that means the same as what is below: its table is the table below, also with the limits and the marks of its
+    // lines in place of those below.
     pub fn of(below: &'a P) -> LimitSheet<'a, P>
         ensures below { result.below.now ≡ below.now }
+        ensures table { ⟦<LimitSheet<'a, P> as Programme>⟧.table result ≡ P.Programme.table below.now }
         ensures same { sheeted (P.Programme.table result.below.now) result.lines ≡ P.Programme.table below.now }
     {
-        let mut lines = [Line {
-            low: 0,
-            high: 0,
-            whole: false,
-        }; 256];
-        for v in 0..below.variable_count() {
-            let (low, high) = below.limits(v);
-            let whole = below.whole(v);
-            lines[v] = Line { low, high, whole };
-        }
+        let lines = array::from_fn(|v| line_of(below, v));
         LimitSheet { below, lines }
+    }
+
+    // The line of a variable, all zeros beyond the last.
+    fn line(&self, v: usize) -> Line
+        ensures { result ≡ line_of (P.Programme.table self.now.below.now) v }
+    {
+        self.lines.get(v).copied().unwrap_or_default()
     }
 }

@@ -1,23 +1,14 @@
-// The steps of a tree file, read one by one up to a split or to the close of a leaf.
-ghost use Rattle.std.specs.Prelude.{◌≡◌, ◌<◌, OnOk};
+// A node of a tree file, read step by step up to its split or to the close of its leaf.
+ghost use Rattle.std.specs.Prelude.{◌≡◌, ◌&&◌, int_lt, length, nat_lt, not, pos};
 ghost use Rattle.records.specs.Readers.{file_of, place_of};
 ghost use Rattle.bound.specs.Leaves.{leaf_bound};
-ghost use Rattle.bound.specs.Steps.{step_at};
-ghost use Rattle.bound.specs.Checks.{numbered, judged, opened, closing, found_at, Gives, OverTree};
+ghost use Rattle.bound.specs.Checks.{numbered, judged, opened, closing, next_row, found_at, Gives};
 
 use crate::arithmetic::MOST;
 use crate::faults::{Fault, Refusal};
-use crate::leaf::{Weight, leaf_bound};
+use crate::leaf::{Leaf, Weight};
 use crate::programme::Programme;
-use records::Reader;
-
-// What a record of a tree says.
-#[derive(Clone, Copy)]
-pub(crate) enum Step {
-    Split(i64),
-    Row(i64, i64),
-    Close,
-}
+use crate::reader::{Step, TreeReader};
 
 // What opens a node: a split on a variable, or a whole leaf with its bound.
 #[derive(Clone, Copy)]
@@ -26,128 +17,75 @@ pub(crate) enum Found {
     Leaf(i64),
 }
 
-// The step at the reader's place.
-fn next_step(reader: &mut Reader) -> Result<Step, Refusal>
-    requires { OverTree reader.old }
-    ensures file { file_of reader.new ≡ file_of reader.old }
-    ensures over { OnOk result (OverTree reader.new) }
-    ensures gives { Gives (step_at (file_of reader.old) (place_of reader.old)) result (place_of reader.new) }
-    ensures on { OnOk result (place_of reader.old < place_of reader.new) }
-{
-    let place = reader.place();
-    let Some(record) = reader.next()? else {
-        return Err(Refusal {
-            fault: Fault::NotOneTree,
-            place,
-        });
-    };
-    Ok(match record.kind {
-        8 => Step::Split(record.field(0)),
-        9 => Step::Row(record.field(0), record.field(1)),
-        _ => Step::Close,
-    })
-}
-
 // The number, where it is one of `count` from 0 on.
 fn number(count: usize, z: i64) -> Option<usize>
     ensures { result ≡ numbered count z }
 {
-    if z < 0 || z as i128 >= count as i128 {
-        return None;
-    }
-    Some(z as usize)
+    usize::try_from(z).ok().filter(|n| *n < count)
 }
 
-// The weight of a row, after `count` others whose rows are below `next`.
-fn judge(
-    count: usize,
-    next: usize,
-    rows: usize,
-    row: i64,
-    weight: i64,
-    place: usize,
-) -> Result<Weight, Refusal>
-    ensures { result ≡ judged count next rows row weight place }
-{
-    if count > 0 && (row as i128) < next as i128 {
-        return Err(Refusal {
-            fault: Fault::NotRising,
-            place,
-        });
+// Each takes the place of its record: the definitions whose answers these are name it.
+impl<'a, P: Programme> Leaf<'a, P> {
+    // Whether the row is above the last that is weighed, if any is.
+    fn rises(&self, row: i64) -> bool
+        ensures { result ≡ not (nat_lt 0 (length self.now.weights.items) && int_lt row (pos (next_row self.now.weights.items))) }
+    {
+        self.weights.as_slice().last().is_none_or(|last| usize::try_from(row).is_ok_and(
+            |row| last.row < row,
+        ))
     }
-    if weight < 1 || weight as i128 > MOST {
-        return Err(Refusal {
-            fault: Fault::OutsideLimits,
-            place,
-        });
-    }
-    match number(rows, row) {
-        Some(row) => Ok(Weight { row, weight }),
-        None => Err(Refusal {
-            fault: Fault::Absent,
-            place,
-        }),
-    }
-}
 
-// A split, after `count` weights of an open leaf.
-fn branch(variables: usize, count: usize, variable: i64, place: usize) -> Result<Found, Refusal>
-    ensures { result ≡ opened variables count variable place }
-{
-    let Some(variable) = number(variables, variable) else {
-        return Err(Refusal {
-            fault: Fault::Absent,
-            place,
-        });
-    };
-    if count > 0 {
-        return Err(Refusal {
-            fault: Fault::SplitBarred,
-            place,
-        });
+    // The weight of one row more.
+    fn judge(&self, row: i64, weight: i64, place: usize) -> Result<Weight, Refusal>
+        ensures { result ≡ judged (length self.now.weights.items) (next_row self.now.weights.items) (P.Programme.table self.now.programme.now).rows row weight place }
+    {
+        if !self.rises(row) {
+            return Err(Fault::NotRising.at(place));
+        }
+        if !(1..=MOST).contains(&weight) {
+            return Err(Fault::OutsideLimits.at(place));
+        }
+        let row = number(self.programme.rows(), row).ok_or(Fault::Absent.at(place))?;
+        Ok(Weight { row, weight })
     }
-    Ok(Found::Branch(variable))
-}
 
-// The bound of a leaf that closes at `place`.
-fn close<P: Programme>(programme: &P, weights: &[Weight], place: usize) -> Result<Found, Refusal>
-    ensures { result ≡ closing (leaf_bound (P.table programme.now) weights.now) place }
-{
-    match leaf_bound(programme, weights) {
-        Some(bound) => Ok(Found::Leaf(bound)),
-        None => Err(Refusal {
-            fault: Fault::TooLarge,
-            place,
-        }),
+    // A split, which may not follow a weight.
+    fn branch(&self, variable: i64, place: usize) -> Result<Found, Refusal>
+        ensures { result ≡ opened (P.Programme.table self.now.programme.now).variables (length self.now.weights.items) variable place }
+    {
+        let known = self.programme.variable_count();
+        let variable = number(known, variable).ok_or(Fault::Absent.at(place))?;
+        if !self.weights.is_empty() {
+            return Err(Fault::SplitBarred.at(place));
+        }
+        Ok(Found::Branch(variable))
+    }
+
+    // The bound of the leaf, which closes at `place`.
+    fn close(&self, place: usize) -> Result<Found, Refusal>
+        ensures { result ≡ closing (leaf_bound (P.Programme.table self.now.programme.now) self.now.weights.items) place }
+    {
+        self.bound()
+            .map(Found::Leaf)
+            .ok_or(Fault::TooLarge.at(place))
     }
 }
 
-// Reads on to a split, or to the close of a leaf. The only place that keeps a leaf's weights.
-pub(crate) fn open<P: Programme>(reader: &mut Reader, programme: &P) -> Result<Found, Refusal>
-    requires { OverTree reader.old }
-    ensures file { file_of reader.new ≡ file_of reader.old }
-    ensures over { OnOk result (OverTree reader.new) }
-    ensures gives { Gives (found_at (P.table programme.now) (file_of reader.old) (place_of reader.old)) result (place_of reader.new) }
+// Reads on to a split, or to the close of a leaf. A `loop`, since only the reader says where that is, and each step moves it on.
+pub(crate) fn open<P: Programme>(reader: &mut TreeReader, programme: &P) -> Result<Found, Refusal>
+    ensures file { file_of reader.new.reader ≡ file_of reader.old.reader }
+    ensures gives { Gives (found_at (P.table programme.now) (file_of reader.old.reader) (place_of reader.old.reader)) result (place_of reader.new.reader) }
 {
-    let mut weights = [Weight { row: 0, weight: 1 }; 1024];
-    let mut count = 0;
-    let mut next = 0;
+    let mut leaf = Leaf::over(programme);
     loop {
         let place = reader.place();
-        match next_step(reader)? {
-            Step::Split(variable) => return branch(
-                programme.variable_count(),
-                count,
-                variable,
-                place,
-            ),
-            Step::Row(row, weight) => {
-                let judged = judge(count, next, programme.rows(), row, weight, place)?;
-                weights[count] = judged;
-                count += 1;
-                next = judged.row + 1;
+        match reader.next_step()? {
+            Step::Split(variable) => return leaf.branch(variable, place),
+            Step::Row { row, weight } => {
+                let weight = leaf.judge(row, weight, place)?;
+                leaf.weights.push(weight);
             }
-            Step::Close => return close(programme, &weights[0..count], place),
+            Step::Close => return leaf.close(place),
         }
     }
 }

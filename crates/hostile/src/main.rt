@@ -15,21 +15,16 @@ use wide::Wide;
 fn verdict(heap: Global, file: &[u8]) -> Result<String, AllocError> {
     match check(&Wide, file) {
         Ok(bound) => format!(in heap; "bound {bound}"),
-        Err(refusal) => {
-            let number = refusal.fault.number();
-            let place = refusal.place;
-            format!(in heap; "refused, {number} at {place}")
-        }
+        Err(refusal) => format!(in heap; "refused, {refusal}"),
     }
 }
 
 fn main(rt: HostRuntime) -> io::Result<()> {
     let heap = rt.alloc();
     for trial in TRIALS {
-        let name = trial.name();
         let file = trial.file(heap)?;
         let told = verdict(heap, file.as_slice())?;
-        println!(rt; "{name}: {told}")?;
+        println!(rt; "{trial}: {told}")?;
     }
     Ok(())
 }

@@ -3,7 +3,11 @@ ghost use Rattle.hostile.specs.Wide.{wide, wide_lawful};
 
 use bound::Programme;
 
+// The greatest number that the check takes, as the format says it, and not as the check does.
 pub const LIMIT: i64 = 1_000_000_000_000_000_000;
+
+// The last variable.
+const LAST: usize = 255;
 
 // 256 variables, each 0 or 1 and worth 1. Row 0 has 1 at each; rows 1 and 2 have -10^18 and 10^18 at the last.
 #[derive(Drop)]
@@ -31,25 +35,22 @@ impl Programme for Wide {
     }
 
     fn limits(&self, v: usize) -> (i64, i64) {
-        if v < 256 { (0, 1) } else { (0, 0) }
+        if v < Self::VARIABLES { (0, 1) } else { (0, 0) }
     }
 
     fn whole(&self, v: usize) -> bool {
-        v < 256
+        v < Self::VARIABLES
     }
 
     fn objective(&self, v: usize) -> i64 {
-        if v < 256 { 1 } else { 0 }
+        i64::from(v < Self::VARIABLES)
     }
 
     fn coefficient(&self, row: usize, v: usize) -> i64 {
-        if v >= 256 {
-            return 0;
-        }
         match row {
-            0 => 1,
-            1 => if v == 255 { -LIMIT } else { 0 },
-            2 => if v == 255 { LIMIT } else { 0 },
+            0 if v < Self::VARIABLES => 1,
+            1 if v == LAST => -LIMIT,
+            2 if v == LAST => LIMIT,
             _ => 0,
         }
     }

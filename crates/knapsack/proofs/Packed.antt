@@ -1,11 +1,12 @@
 -- Sums of four, and packings as points of the knapsack.
-use Rattle.std.proofs.Common.{◌≡◌, ℕ, Bool, true, false, cond, List, get_or, replicate, ℤ, pos, ◌+ℤ◌, ◌*ℤ◌, ◌≤ℤ◌, IfOk, Ok, Err, Result, sym, subst, arith, w64, SFits}
+use Rattle.std.proofs.Common.{◌≡◌, ℕ, Bool, true, false, cond, List, get_or, replicate, ℤ, pos, ◌+ℤ◌, ◌*ℤ◌, ◌≤ℤ◌, IfOk, Ok, Err, Result, sym, ap, subst, arith}
 use lib.Signed.{le_z_yes}
 use Rattle.std.proofs.lemmas.Int.{ints}
 use Rattle.std.proofs.lemmas.Bool.{lt-ltb}
-use Rattle.numbers.specs.Sums.{sum_to, Within}
+use Rattle.numbers.specs.Sums.{sum_to, Within, Term}
 use Rattle.bound.specs.Points.{Point, Bounds}
 use Rattle.bound.specs.declared.faults.Refusal.{Refusal}
+use Rattle.knapsack.specs.declared.items.Item.{Item}
 use Rattle.knapsack.specs.Items.{item_at}
 use Rattle.knapsack.specs.Knapsack.{knapsack}
 use Rattle.knapsack.specs.Packings.{part, worth_of, Fits, Caps}
@@ -39,14 +40,13 @@ pub caps : (r : Result ℤ Refusal) → IfOk r (λ b. Bounds knapsack b) → IfO
 caps (Ok b) bounds = λ taken fits. subst (λ z. (pos 10 *ℤ worth_of taken) ≤ℤ z) (sym (times_one b)) (bounds 1 (part taken) (omega arith) (packed taken fits))
 caps (Err e) bounds = tt
 
--- four small numbers fit 64 bits, also as they are added up
-pub record Added (a b c d : ℤ) : Type 0 where
-  pub two : SFits w64 (a +ℤ b)
-  pub three : SFits w64 ((a +ℤ b) +ℤ c)
-  pub four : SFits w64 (((a +ℤ b) +ℤ c) +ℤ d)
+-- the number of a thing that is taken, or 0
+counted_small : (z : ℤ) (b : Bool) → Within 50 z → Within 50 (z *ℤ cond b (pos 1) (pos 0))
+counted_small z true w = (omega (arith, ints), omega (arith, ints))
+counted_small z false w = (omega (arith, ints), omega (arith, ints))
 
-pub added : (a b c d : ℤ) → Within 50 a → Within 50 b → Within 50 c → Within 50 d → Added a b c d
-added a b c d p q r s = record { two = omega (arith, ints); three = omega (arith, ints); four = omega (arith, ints) }
+pub counted_term : (f : Item → ℤ) (taken : List Bool) (v : ℕ) (z : ℤ) → Term (λ v. f (item_at v)) 50 v z → Term (λ v. f (item_at v) *ℤ part taken v) 50 v (z *ℤ part taken v)
+counted_term f taken v z t = record { is = ap (λ x. x *ℤ part taken v) t.is; small = counted_small z (get_or taken v false) t.small }
 
 -- nothing is taken
 pub none_fits : Fits (replicate 4 false)

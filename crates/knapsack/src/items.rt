@@ -2,20 +2,39 @@
 ghost use Rattle.std.specs.Prelude.{◌≡◌};
 ghost use Rattle.knapsack.specs.Items.{item_at};
 
-#[derive(Clone, Copy)]
+#[derive(Clone, Copy, Debug, PartialEq, Eq, Default)]
 pub struct Item {
     pub value: i64,
     pub size: i64,
 }
 
-pub const ITEMS: [Item; 4] = [
-    Item { value: 40, size: 5 },
-    Item { value: 30, size: 4 },
-    Item { value: 50, size: 6 },
-    Item { value: 10, size: 3 },
-];
+#[derive(Clone, Copy, Debug, PartialEq, Eq)]
+pub struct Named {
+    pub name: &'static str,
+    pub item: Item,
+}
 
-pub const NAMES: [&str; 4] = ["tent", "stove", "rope", "lamp"];
+// How many things there are.
+pub const THINGS: usize = 4;
+
+pub const ITEMS: [Named; THINGS] = [
+    Named {
+        name: "tent",
+        item: Item { value: 40, size: 5 },
+    },
+    Named {
+        name: "stove",
+        item: Item { value: 30, size: 4 },
+    },
+    Named {
+        name: "rope",
+        item: Item { value: 50, size: 6 },
+    },
+    Named {
+        name: "lamp",
+        item: Item { value: 10, size: 3 },
+    },
+];
 
 pub const CAPACITY: i64 = 10;
 
@@ -23,9 +42,5 @@ pub const CAPACITY: i64 = 10;
 pub fn item_at(v: usize) -> Item
     ensures { result ≡ item_at v }
 {
-    if v < 4 {
-        ITEMS[v]
-    } else {
-        Item { value: 0, size: 0 }
-    }
+    ITEMS.get(v).map_or(Item::default(), |named| named.item)
 }

@@ -6,7 +6,7 @@ mod packing;
 mod programme;
 mod report;
 
-use items::{CAPACITY, ITEMS, NAMES};
+use items::{CAPACITY, ITEMS, Item, Named};
 use packing::best_packing;
 use report::{contents, verdict};
 use std::{fs, io};
@@ -29,10 +29,8 @@ const FILES: [&str; 12] = [
 
 fn main(rt: HostRuntime) -> io::Result<()> {
     println!(rt; "A bag of capacity {CAPACITY}, and what may be packed:")?;
-    for v in 0..4 {
-        let name = NAMES[v];
-        let value = ITEMS[v].value;
-        let size = ITEMS[v].size;
+    for Named { name, item } in ITEMS {
+        let Item { value, size } = item;
         println!(rt; "  {name}: value {value}, size {size}")?;
     }
     let best = contents(rt.alloc(), &best_packing())?;

@@ -1,53 +1,50 @@
 // Every way to pack the bag, tried one after another.
-ghost use Rattle.std.specs.Prelude.{◌≡◌, ◌*ℤ◌};
-ghost use Rattle.numbers.specs.Sums.{Within};
+ghost use Rattle.std.specs.Prelude.{◌≡◌, ℕ, if◌then◌else◌, pos, ℤ, ◌*ℤ◌};
+ghost use Rattle.numbers.specs.Sums.{sum_to, Term};
 ghost use Rattle.knapsack.specs.Items.{item_at};
+ghost use Rattle.knapsack.specs.declared.items.Item.{Item};
 ghost use Rattle.knapsack.specs.Packings.{part, worth_of, load_of, Fits};
 
-use super::items::{CAPACITY, item_at};
+use super::items::{CAPACITY, Item, THINGS, item_at};
+use numbers::sum_of;
+use std::array;
 
-// What the thing of this number adds to the worth, and to the load.
-fn value_at(taken: &[bool; 4], v: usize) -> i64
-    ensures is { result ≡ (item_at v).value *ℤ part taken.now v }
-    ensures small { Within 50 result }
+// The number of a thing, where the thing is taken.
+fn counted(taken: bool, number: i64) -> i64
+    ensures { result ≡ number *ℤ (if taken then pos 1 else pos 0) }
 {
-    if v < 4 && taken[v] {
-        item_at(v).value
-    } else {
-        0
-    }
+    if taken { number } else { 0 }
 }
 
-fn size_at(taken: &[bool; 4], v: usize) -> i64
-    ensures is { result ≡ (item_at v).size *ℤ part taken.now v }
-    ensures small { Within 50 result }
+// One number of each thing that is taken, added up.
+fn total<N: Fn(Item) -> i64>(taken: &[bool; THINGS], number: N) -> i64
+    requires callable { N.IsAlwaysCallable number }
+    requires small { (f : Item → ℤ) × ((v : ℕ) (z : ℤ) → N.post number (item_at v) z → Term (λ v. f (item_at v)) 50 v z) }
+    ensures { (f : Item → ℤ) → ((v : ℕ) (z : ℤ) → N.post number (item_at v) z → z ≡ f (item_at v)) → result ≡ sum_to 4 (λ v. f (item_at v) *ℤ part taken.now v) }
 {
-    if v < 4 && taken[v] {
-        item_at(v).size
-    } else {
-        0
-    }
+    sum_of(THINGS, |v| counted(taken[v], number(item_at(v))))
 }
 
-pub fn worth(taken: &[bool; 4]) -> i64
+pub fn worth(taken: &[bool; THINGS]) -> i64
     ensures { result ≡ worth_of taken.now }
 {
-    value_at(taken, 0) + value_at(taken, 1) + value_at(taken, 2) + value_at(taken, 3)
+    total(taken, |item| item.value)
 }
 
-pub fn load(taken: &[bool; 4]) -> i64
+pub fn load(taken: &[bool; THINGS]) -> i64
     ensures { result ≡ load_of taken.now }
 {
-    size_at(taken, 0) + size_at(taken, 1) + size_at(taken, 2) + size_at(taken, 3)
+    total(taken, |item| item.size)
 }
 
-// A packing that fits, of the greatest worth.
-pub fn best_packing() -> [bool; 4]
+// A packing that fits, of the greatest worth: each bit of a number says whether a thing is taken. A loop, since a fold would
+// carry the best so far from step to step as well.
+pub fn best_packing() -> [bool; THINGS]
     ensures { Fits result }
 {
-    let mut best = [false; 4];
-    for n in 0..16usize {
-        let packing = [n % 2 == 1, n / 2 % 2 == 1, n / 4 % 2 == 1, n / 8 % 2 == 1];
+    let mut best = [false; THINGS];
+    for n in 0..1usize << THINGS {
+        let packing = array::from_fn(|v| n >> v & 1 == 1);
         if load(&packing) <= CAPACITY && worth(&packing) > worth(&best) {
             best = packing;
         }

@@ -3,7 +3,7 @@ ghost use Rattle.std.specs.Prelude.{IfOk};
 ghost use Rattle.knapsack.specs.Knapsack.{knapsack, knapsack_lawful};
 ghost use Rattle.knapsack.specs.Packings.{Caps};
 
-use super::items::{CAPACITY, item_at};
+use super::items::{CAPACITY, THINGS, item_at};
 use bound::{Programme, Refusal, check};
 
 // A variable for each thing, 1 where it is packed; one row, that the sizes are at most the capacity.
@@ -14,7 +14,7 @@ impl Programme for Bag {
     // Bounds are in tenths of a value, so that the weight of a row may be one, too.
     const SCALE: i64 = 10;
 
-    const VARIABLES: usize = 4;
+    const VARIABLES: usize = THINGS;
 
     // What the answers mean, and the proof that it is a lawful table.
     ghost table = { λ _. knapsack };

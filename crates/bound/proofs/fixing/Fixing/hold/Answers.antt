@@ -1,92 +1,58 @@
-use Rattle.std.proofs.Common.{◌≡◌, ◌+◌, ◌<◌, ◌≤◌, length, take, set, refl, ap, ◌∙◌, arith, length-set, w64, to_z, of_z, rules}
-use native.Mathlib.Nat.{sub-zero}
-use Rattle.std.proofs.lemmas.Int.{ints, to_z-of_z}
+use Rattle.std.proofs.Common.{◌≡◌, ◌<◌, ◌∷◌, [], ◌++◌, set, to_z, of_z, Err, sym, ap, ◌∙◌, arith, length-set, w64, SFits}
+use Rattle.std.proofs.lemmas.Int.{to_z-of_z}
+use Rattle.std.proofs.lemmas.Bool.{leb-true, eqb-true}
+use Rattle.arrayvec.proofs.ArrayVecLemmas.{items-with_items}
 use Rattle.bound.specs.declared.fixing.Held.{Held}
 use Rattle.bound.specs.Tables.{Small}
-use Rattle.bound.specs.Layers.{place, SmallRow}
-use Rattle.bound.proofs.Holding.{place_few, small_set, put_last, put_again, may_hold}
+use Rattle.bound.proofs.Holding.{place_some, place_none, put_last, put_again, may_hold, no_room}
 use Rattle.bound.proofs.fixing.Fixing.hold.Goals as goal
 
-pub bounds-self-at : goal.bounds-self-at
-bounds-self-at g c =
+pub returns-in-None-clause-answers : goal.returns-in-None-clause-answers
+returns-in-None-clause-answers g c =
     let self = c.args.self.now in
+    let hs = self.row.items in
     let h : Held = record { variable = c.args.v; value = c.args.value } in
-    let at = c.place_of-at.result in
-    let long : length self.row ≡ 64 = self.long in
-    let few : self.count ≤ length self.row = omega (arith, self.few) in
-    let found : at ≡ place c.args.v (take self.count self.row) = rw sub-zero at c.place_of-at.ensures in
-    let room : at < 64 = omega (arith, self.few, place_few self.row self.count h few at found, c.if-at-eq-MOST_HELD.false) in
-    room
-
-pub offset_bounds-self-at : goal.offset_bounds-self-at
-offset_bounds-self-at g c =
-    let self = c.args.self.now in
-    let h : Held = record { variable = c.args.v; value = c.args.value } in
-    let at = c.place_of-at.result in
-    let long : length self.row ≡ 64 = self.long in
-    let few : self.count ≤ length self.row = omega (arith, self.few) in
-    let found : at ≡ place c.args.v (take self.count self.row) = rw sub-zero at c.place_of-at.ensures in
-    let room : at < 64 = omega (arith, self.few, place_few self.row self.count h few at found, c.if-at-eq-MOST_HELD.false) in
-    search rules
-
-pub invariant_of-self : goal.invariant_of-self
-invariant_of-self g c =
-    let self = c.args.self.now in
-    let h : Held = record { variable = c.args.v; value = c.args.value } in
-    let at = c.place_of-at.result in
-    let long : length self.row ≡ 64 = self.long in
-    let few : self.count ≤ length self.row = omega (arith, self.few) in
-    let found : at ≡ place c.args.v (take self.count self.row) = rw sub-zero at c.place_of-at.ensures in
-    let room : at < 64 = omega (arith, self.few, place_few self.row self.count h few at found, c.if-at-eq-MOST_HELD.false) in
-    let small : Small c.args.value = omega (arith, ints) in
-    let same : to_z w64 (of_z w64 c.args.value) ≡ c.args.value = to_z-of_z w64 _ c.ranges.value in
-    let row : SmallRow (set self.row at record { variable = c.args.v; value = to_z w64 (of_z w64 c.args.value) }) =
-    small_set self.row at _ self.small (rw same small) (omega arith) in
-    record { few = omega (arith, c.if-at-self.true); long = simp length-set long; small = row }
-
-pub invariant_of-self-else-at-self : goal.invariant_of-self-else-at-self
-invariant_of-self-else-at-self g c =
-    let self = c.args.self.now in
-    let h : Held = record { variable = c.args.v; value = c.args.value } in
-    let at = c.place_of-at.result in
-    let long : length self.row ≡ 64 = self.long in
-    let few : self.count ≤ length self.row = omega (arith, self.few) in
-    let found : at ≡ place c.args.v (take self.count self.row) = rw sub-zero at c.place_of-at.ensures in
-    let room : at < 64 = omega (arith, self.few, place_few self.row self.count h few at found, c.if-at-eq-MOST_HELD.false) in
-    let small : Small c.args.value = omega (arith, ints) in
-    let same : to_z w64 (of_z w64 c.args.value) ≡ c.args.value = to_z-of_z w64 _ c.ranges.value in
-    let row : SmallRow (set self.row at record { variable = c.args.v; value = to_z w64 (of_z w64 c.args.value) }) =
-    small_set self.row at _ self.small (rw same small) (omega arith) in
-    record { few = self.few; long = simp length-set long; small = row }
-
-pub returns-then-at-self : goal.returns-then-at-self
-returns-then-at-self g c =
-    let self = c.args.self.now in
-    let h : Held = record { variable = c.args.v; value = c.args.value } in
-    let at = c.place_of-at.result in
-    let long : length self.row ≡ 64 = self.long in
-    let few : self.count ≤ length self.row = omega (arith, self.few) in
-    let found : at ≡ place c.args.v (take self.count self.row) = rw sub-zero at c.place_of-at.ensures in
-    let room : at < 64 = omega (arith, self.few, place_few self.row self.count h few at found, c.if-at-eq-MOST_HELD.false) in
-    let small : Small c.args.value = omega (arith, ints) in
-    let same : to_z w64 (of_z w64 c.args.value) ≡ c.args.value = to_z-of_z w64 _ c.ranges.value in
+    let value : SFits w64 c.args.value = c.ranges.value in
+    let small : Small c.args.value = simp to_z-of_z at (leb-true _ _ (sym c.is_small.ensures ∙ c.if-not-is_small.false)) in
     let known : c.args.v < (g.P.Programme.table self.below.now).variables = rw c.variable_count.ensures at c.if-v-variable_count.false in
-    let answers = may_hold _ (take self.count self.row) h small known (omega arith) in
-    let kept = ap (λ z. take (self.count + 1) (set self.row at record { variable = c.args.v; value = z })) same in
-    record { answers = answers; held = kept ∙ put_last self.row self.count h few at found c.if-at-self.true (omega (arith, c.if-at-self.true)); below = refl }
+    let free = place_none c.args.v hs (sym c.in-None.is ∙ rw c.as_slice.ensures.value at c.place_of.ensures) in
+    let full = eqb-true _ _ (sym c.is_full.ensures.value ∙ c.if-is_full.true) in
+    ap Err c.at-in-None.ensures ∙ no_room _ hs h small known (omega (arith, free, full))
 
-pub returns-else-at-self : goal.returns-else-at-self
-returns-else-at-self g c =
+pub returns-in-Some-clause-answers : goal.returns-in-Some-clause-answers
+returns-in-Some-clause-answers g c =
     let self = c.args.self.now in
+    let hs = self.row.items in
     let h : Held = record { variable = c.args.v; value = c.args.value } in
-    let at = c.place_of-at.result in
-    let long : length self.row ≡ 64 = self.long in
-    let few : self.count ≤ length self.row = omega (arith, self.few) in
-    let found : at ≡ place c.args.v (take self.count self.row) = rw sub-zero at c.place_of-at.ensures in
-    let room : at < 64 = omega (arith, self.few, place_few self.row self.count h few at found, c.if-at-eq-MOST_HELD.false) in
-    let small : Small c.args.value = omega (arith, ints) in
-    let same : to_z w64 (of_z w64 c.args.value) ≡ c.args.value = to_z-of_z w64 _ c.ranges.value in
+    let value : SFits w64 c.args.value = c.ranges.value in
+    let small : Small c.args.value = simp to_z-of_z at (leb-true _ _ (sym c.is_small.ensures ∙ c.if-not-is_small.false)) in
     let known : c.args.v < (g.P.Programme.table self.below.now).variables = rw c.variable_count.ensures at c.if-v-variable_count.false in
-    let answers = may_hold _ (take self.count self.row) h small known (omega arith) in
-    let kept = ap (λ z. take self.count (set self.row at record { variable = c.args.v; value = z })) same in
-    record { answers = answers; held = kept ∙ put_again self.row self.count h few at found c.if-at-self.false; below = refl }
+    let found = place_some c.args.v hs c.in-Some.at (sym c.in-Some.is ∙ rw c.as_slice.ensures.value at c.place_of.ensures) in
+    may_hold _ hs h small known (omega (arith, found.0, found.1, self.few))
+
+pub returns-in-Some-clause-held : goal.returns-in-Some-clause-held
+returns-in-Some-clause-held g c =
+    let self = c.args.self.now in
+    let hs = self.row.items in
+    let h : Held = record { variable = c.args.v; value = c.args.value } in
+    let same : to_z w64 (of_z w64 c.args.value) ≡ c.args.value = to_z-of_z w64 _ c.ranges.value in
+    let found = place_some c.args.v hs c.in-Some.at (sym c.in-Some.is ∙ rw c.as_slice.ensures.value at c.place_of.ensures) in
+    rw (c.deref_mut.ensures.value, same) (items-with_items self.row (set hs c.in-Some.at h) (length-set hs c.in-Some.at h) ∙ put_again hs h c.in-Some.at found.0 found.1)
+
+pub returns-in-None-2-clause-answers : goal.returns-in-None-2-clause-answers
+returns-in-None-2-clause-answers g c =
+    let self = c.args.self.now in
+    let hs = self.row.items in
+    let h : Held = record { variable = c.args.v; value = c.args.value } in
+    let value : SFits w64 c.args.value = c.ranges.value in
+    let small : Small c.args.value = simp to_z-of_z at (leb-true _ _ (sym c.is_small.ensures ∙ c.if-not-is_small.false)) in
+    let known : c.args.v < (g.P.Programme.table self.below.now).variables = rw c.variable_count.ensures at c.if-v-variable_count.false in
+    let free = place_none c.args.v hs (sym c.in-None.is ∙ rw c.as_slice.ensures.value at c.place_of.ensures) in
+    may_hold _ hs h small known (omega (arith, free, c.push.ensures.len, c.self-in-None-2-1.given.0))
+
+pub returns-in-None-2-clause-held : goal.returns-in-None-2-clause-held
+returns-in-None-2-clause-held g c =
+    let hs = c.args.self.now.row.items in
+    let same : to_z w64 (of_z w64 c.args.value) ≡ c.args.value = to_z-of_z w64 _ c.ranges.value in
+    let free = place_none c.args.v hs (sym c.in-None.is ∙ rw c.as_slice.ensures.value at c.place_of.ensures) in
+    c.push.ensures.items ∙ ap (λ z. hs ++ (record { variable = c.args.v; value = z } ∷ [])) same ∙ put_last hs _ free
