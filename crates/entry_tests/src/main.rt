@@ -2,26 +2,24 @@
 // entries of each kind are kept. What it has to print stands in the file stdout.
 #![tactic(auto)]
 
+ghost use Rattle.std.specs.Iterator.{UpTo};
+
 mod parts;
 
 use market::{Book, ClosedMarket, Refusal};
-use parts::part;
-use std::fs;
+use parts::Parts;
 use std::str::from_utf8;
+use std::{fs, iter};
 
 fn show_answer(rt: &HostRuntime, answer: Result<(), Refusal>) -> anyhow::Result<()> {
     match answer {
         Ok(()) => print!(rt; " accepted")?,
-        Err(refusal) => {
-            let number = refusal.fault.number();
-            let place = refusal.place;
-            print!(rt; " {number} at {place}")?;
-        }
+        Err(refusal) => print!(rt; " {refusal}")?,
     }
     Ok(())
 }
 
-fn show_counts(rt: &HostRuntime, market: ClosedMarket) -> anyhow::Result<()> {
+fn show_counts(rt: &HostRuntime, market: &ClosedMarket) -> anyhow::Result<()> {
     let windows = market.window_count();
     let buys = market.buy_count();
     let baskets = market.basket_count();
@@ -30,48 +28,43 @@ fn show_counts(rt: &HostRuntime, market: ClosedMarket) -> anyhow::Result<()> {
     Ok(())
 }
 
-// Enters the files one after the other.
-fn run_case(rt: &HostRuntime, name: &[u8], files: &[u8]) -> anyhow::Result<()> {
-    let name = from_utf8(name)?;
+// Enters the files one after the other into a new book.
+fn run_case<'a, I: Iterator<Item = &'a [u8]> + Drop>(
+    rt: &HostRuntime,
+    name: &str,
+    files: I,
+) -> anyhow::Result<()>
+    requires can { I.can_next files }
+    requires ends { UpTo (I.remaining files) usize.MAX }
+{
     print!(rt; "{name}:")?;
     let mut book = Book::open(rt.alloc())?;
-    let mut rest = files;
-    for i in 0..files.len() {
-        let Some((file, more)) = part(rest) else {
-            break;
-        };
+    for (i, file) in files.enumerate() {
         if i > 0 {
             print!(rt; ",")?;
         }
-        let answer = book.enter(file);
-        show_answer(rt, answer)?;
-        rest = more;
+        show_answer(rt, book.enter(file))?;
     }
-    show_counts(rt, book.close())
+    show_counts(rt, &book.close())
 }
 
 // A file of zeros, which is no market file, of this length.
 fn run_zeros(rt: &HostRuntime, length: usize) -> anyhow::Result<()> {
+    let name = format!(in rt.alloc(); "{length} bytes of 0")?;
     let file = vec![in rt.alloc(); 0u8; length]?;
-    print!(rt; "{length} bytes of 0:")?;
-    let mut book = Book::open(rt.alloc())?;
-    let answer = book.enter(file.as_slice());
-    show_answer(rt, answer)?;
-    show_counts(rt, book.close())
+    run_case(rt, name.as_str(), iter::once(file.as_slice()))
 }
 
 fn run(rt: &HostRuntime) -> anyhow::Result<()> {
     let cases = fs::read(rt, "cases.bin")?;
-    let mut rest = cases.as_slice();
-    for _i in 0..cases.len() {
-        let Some((name, after)) = part(rest) else {
+    let mut parts = Parts {
+        bytes: cases.as_slice(),
+    };
+    while let Some(name) = parts.next() {
+        let Some(bytes) = parts.next() else {
             break;
         };
-        let Some((files, more)) = part(after) else {
-            break;
-        };
-        run_case(rt, name, files)?;
-        rest = more;
+        run_case(rt, from_utf8(name)?, Parts { bytes })?;
     }
     run_zeros(rt, 65_535)?;
     run_zeros(rt, 65_536)

@@ -1,14 +1,14 @@
 -- The tests of windows and baskets decide what they are named for.
-use Rattle.std.proofs.Common.{◌≡◌, ℕ, zero, suc, ◌+◌, ◌<◌, ◌≤◌, max, Bool, true, ◌&&◌, eqb, ltb, leb, ◌⊎◌, List, Decides, refl, ap, arith}
+use Rattle.std.proofs.Common.{◌≡◌, ℕ, zero, suc, ◌+◌, ◌<◌, ◌≤◌, max, Bool, true, ◌&&◌, eqb, ltb, leb, ◌⊎◌, List, Decides, sym, ap, ◌∙◌, arith}
 use Rattle.std.proofs.lemmas.Bool.{and_parts, and_from, le-leb, leb-true, ltb-true, lt-ltb}
 use Rattle.std.proofs.lemmas.Bool.Decides.{Decides-and, Decides-or, Decides-not, Decides-eqb, Decides-like}
 use Rattle.market.specs.declared.entries.Service.{Service}
-use Rattle.market.specs.declared.entries.Service.TheVariants.{Response, Balancing, Quick, Slow}
 use Rattle.market.specs.declared.entries.Window.{Window}
 use Rattle.market.specs.declared.entries.Basket.{Basket}
-use Rattle.market.specs.Services.{terms}
+use Rattle.market.specs.Services.{terms, service_of}
 use Rattle.market.specs.Market.{window_in, Share}
 use Rattle.market.specs.Tests.{shares, clash, breaks}
+use Rattle.market.proofs.Naming.{service_back}
 
 pub dec_leb : (a b : ℕ) → Decides (leb a b) (a ≤ b)
 dec_leb a b = (leb-true a b, le-leb a b)
@@ -38,22 +38,7 @@ dec_six f P each = (
 )
 
 pub same_service : (a b : Service) → (terms a).number ≡ (terms b).number → a ≡ b
-same_service Response Response e = refl
-same_service Response Balancing e = absurd (omega arith)
-same_service Response Quick e = absurd (omega arith)
-same_service Response Slow e = absurd (omega arith)
-same_service Balancing Response e = absurd (omega arith)
-same_service Balancing Balancing e = refl
-same_service Balancing Quick e = absurd (omega arith)
-same_service Balancing Slow e = absurd (omega arith)
-same_service Quick Response e = absurd (omega arith)
-same_service Quick Balancing e = absurd (omega arith)
-same_service Quick Quick e = refl
-same_service Quick Slow e = absurd (omega arith)
-same_service Slow Response e = absurd (omega arith)
-same_service Slow Balancing e = absurd (omega arith)
-same_service Slow Quick e = absurd (omega arith)
-same_service Slow Slow e = refl
+same_service a b e = sym (service_back a) ∙ ap service_of e ∙ service_back b
 
 pub dec_shares : (v w : Window) → 1 ≤ v.length → 1 ≤ w.length → Decides (shares v w) (Share v w)
 dec_shares v w h k = (

@@ -1,6 +1,8 @@
 -- An entry that was read has its numbers within their limits.
-use Rattle.std.proofs.Common.{◌≡◌, ℕ, ◌+◌, ◌≤◌, Bool, true, false, cond, eqb, leb, List, length, ℤ, pos, negsuc, Ok, Err, sym, refl, ap, ◌∙◌, arith}
-use Rattle.std.proofs.lemmas.Bool.{and_parts, and_from, cond-true}
+use Rattle.std.proofs.Common.{◌≡◌, ℕ, ◌+◌, ◌≤◌, Bool, true, false, cond, eqb, leb, List, length, ℤ, pos, negsuc, Ok, Err, sym, refl, ap, ◌∙◌, arith, w64, SFits, to_z, of_z}
+use lib.IntN.{nat_abs}
+use Rattle.std.proofs.lemmas.Int.{to_z-of_z}
+use Rattle.std.proofs.lemmas.Bool.{and_parts, and_from, leb-true, cond-true}
 use Rattle.std.proofs.lemmas.Bool.Decides.{nat_tests}
 use Rattle.records.specs.Read.{Content}
 use Rattle.market.specs.declared.entries.Entry.{Entry}
@@ -10,7 +12,7 @@ use Rattle.market.specs.declared.entries.Role.TheVariants.{Child, Substitute}
 use Rattle.market.specs.declared.faults.Fault.{Fault}
 use Rattle.market.specs.declared.faults.Fault.TheVariants.{OutsideLimits}
 use Rattle.market.specs.Lines.{between, price_ok, window_ok, buy_ok, six_ok, basket_ok, extra_ok, entry_ok}
-use Rattle.market.specs.Reading.{fitted, field, price_of, small_of, is_quantity, are_quantities, quantities_of, window_of, window_limits, buy_of, buy_limits, basket_of, basket_limits, extra_of, extra_limits, limited, limits, limits_of, entry_of, entry_in, read_entry, mapped, by_kind, kind_of, Kind, a_window, a_buy, a_basket, a_child, a_substitute}
+use Rattle.market.specs.Reading.{fitted, byte_of, read_basket, field, price_of, small_of, is_quantity, are_quantities, quantities_of, window_of, window_limits, buy_of, buy_limits, basket_of, basket_limits, extra_of, extra_limits, limited, limits, limits_of, entry_of, entry_in, read_entry, mapped, by_kind, kind_of, Kind, a_window, a_buy, a_basket, a_child, a_substitute}
 
 fit : (low high top : ℕ) (z : ℤ) → high ≤ top → between (pos low) (pos high) z ≡ true → (leb low (fitted top z) ≡ true) × (leb (fitted top z) high ≡ true)
 fit low high top (pos n) h e = (grind (arith, nat_tests), grind (arith, nat_tests))
@@ -91,7 +93,7 @@ read_entry_is e =
     (λ i. by_kind e.kind (mapped_limited (window_limits zs) (window_of zs) OfWindow i) (mapped_limited (buy_limits zs) (buy_of zs) OfBuy i) (mapped_limited (basket_limits zs) (basket_of zs) OfBasket i) (mapped_limited (extra_limits zs) (extra_of Child zs) OfExtra i) (mapped_limited (extra_limits zs) (extra_of Substitute zs) OfExtra i))
     ∙ by_tests (eqb e.kind 1) (eqb e.kind 2) (eqb e.kind 3) (eqb e.kind 4) (λ k. limited (limits_of k zs) (entry_of k zs))
 
-limited_ok : {A : Type 0} (b : Bool) (x y : A) → limited b x ≡ Ok y → (b ≡ true) × (x ≡ y)
+pub limited_ok : {A : Type 0} (b : Bool) (x y : A) → limited b x ≡ Ok y → (b ≡ true) × (x ≡ y)
 limited_ok true x y h = (refl, grind arith)
 limited_ok false x y h = grind arith
 
@@ -109,3 +111,21 @@ pub read_entry_fits : (e : Content) (i : Entry) → read_entry e ≡ Ok i → en
 read_entry_fits e i h =
     let p = read_ok e i h in
     ap entry_ok (sym p.1) ∙ entry_fits e p.0
+
+-- a number within its limits, in fewer bits
+pub fewer_bits : (low high top : ℕ) (z y : ℤ) → high ≤ top → top ≤ 65535 → between (pos low) (pos high) z ≡ true → z ≡ y → nat_abs (to_z w64 (of_z w64 y)) ≡ fitted top z
+fewer_bits low high top (pos n) y h k e s =
+    let l : n ≤ high = leb-true n high (and_parts (leb low n) _ e).1 in
+    let f : SFits w64 (pos n) = record { sfits = omega arith } in
+    let t : n ≡ fitted top (pos n) = grind (arith, nat_tests) in
+    ap (λ x. nat_abs (to_z w64 (of_z w64 x))) (sym s) ∙ ap nat_abs (to_z-of_z w64 (pos n) f) ∙ t
+fewer_bits low high top (negsuc n) y h k e s = grind arith
+
+-- a basket whose numbers are those of its record
+pub basket_read : (zs : List ℤ) (unit window ring : ℕ) (qs : List ℕ) (price : ℤ)
+    → between (pos 1) (pos 65535) (field zs 0) ≡ true → between (pos 0) (pos 255) (field zs 2) ≡ true → are_quantities zs 3 ≡ true → price_ok (field zs 9) ≡ true
+    → unit ≡ small_of (field zs 0) → window ≡ byte_of (field zs 1) → ring ≡ byte_of (field zs 2) → qs ≡ quantities_of zs 3 → price ≡ price_of (field zs 9)
+    → read_basket zs ≡ Ok (record { unit = unit; window = window; ring = ring; quantities = qs; price = price })
+basket_read zs unit window ring qs price a b c d u w r q p =
+    cond-true (basket_limits zs) _ _ (and_from _ _ a (and_from _ _ b (and_from _ _ c d)))
+    ∙ sym (λ i. Ok (record { unit = u i; window = w i; ring = r i; quantities = q i; price = p i }))

@@ -2,6 +2,10 @@ pub mod Pushing
 pub mod Deciding
 pub mod Books
 pub mod Zeros
+pub mod Putting
+pub mod Searching
+pub mod Naming
+pub mod Quantities
 pub mod Fields
 pub mod Fitting
 pub mod Faulting

@@ -1,6 +1,7 @@
 -- One more entry of a file.
-use Rattle.std.proofs.Common.{◌≡◌, ℕ, ◌+◌, ◌-◌, ◌≤◌, true, false, List, [], ◌∷◌, ◌++◌, length, take, drop, Ok, sym, ap, ◌∙◌, subst, arith, take-add}
+use Rattle.std.proofs.Common.{◌≡◌, ℕ, ◌+◌, ◌-◌, ◌≤◌, true, false, List, [], ◌∷◌, ◌++◌, length, take, drop, Ok, Err, Result, is_ok, sym, refl, ap, ◌∙◌, subst, arith, take-add}
 use Rattle.std.proofs.ByRecursion.{All-drop}
+use Rattle.std.proofs.lemmas.Bool.{both_ways}
 use Rattle.std.proofs.lemmas.List.{append-nil, append_assoc}
 use Rattle.std.specs.List.{AllByRecursion}
 use Rattle.records.specs.Read.{Content, read}
@@ -10,10 +11,13 @@ use Rattle.records.proofs.Spelling.{read_own}
 use Rattle.records.proofs.Tails.{encode_more}
 use Rattle.market.specs.declared.book.Book.{Book}
 use Rattle.market.specs.declared.entries.Entry.{Entry}
+use Rattle.market.specs.declared.faults.Fault.{Fault}
+use Rattle.market.specs.declared.faults.Refusal.{Refusal}
 use Rattle.market.specs.Files.{kinds, kind_in, spelt, bytes_of, Grows}
 use Rattle.market.specs.Lawful.{Lawful}
 use Rattle.market.specs.Market.{Market, put}
 use Rattle.market.specs.Reading.{entry_in, limits}
+use Rattle.market.specs.Taken.{Took}
 use Rattle.market.specs.Tests.{absent}
 use Rattle.market.specs.View.{market_of}
 use Rattle.market.proofs.Books.{book_lawful}
@@ -54,3 +58,8 @@ so_far_more m file p q was after c all so_far is place fits there grown =
       ap (λ k. take k file) place ∙ bytes_more file p c.size es e so_far.1 here,
       subst (Grows m (es ++ e ∷ [])) (sym grown) (grows_more m es (market_of was) e so_far.2 ok),
     )
+
+-- a record that is not refused is taken
+pub took_ok : (m : Market) (c : Content) (r : Result (Unit {0}) Fault) (s : Result (Unit {0}) Refusal) (x : Unit {0}) (n : Market) → Took m c r n → is_ok s ≡ is_ok r → s ≡ Ok x → (limits c ≡ true) × (absent m (entry_in c) ≡ false) × (n ≡ put m (entry_in c))
+took_ok m c (Ok y) s x n took same ok = took
+took_ok m c (Err f) s x n took same ok = absurd (both_ways false refl (sym same ∙ ap is_ok ok))

@@ -10,3 +10,4 @@ pub mod Wrong
 pub mod Taken
 pub mod Files
 pub mod Figures
+pub mod Variables

@@ -5,9 +5,19 @@ ghost use Rattle.market.specs.Lines.{FitWindows, Apart, FitBuys, Bought, FitBask
 
 use crate::entries::{Basket, Buy, Extra, Window};
 
+mod checks;
 mod enters;
 mod opens;
 mod puts;
+
+// How many entries of each kind there may be.
+const MOST_WINDOWS: usize = 32;
+
+const MOST_BUYS: usize = 64;
+
+const MOST_BASKETS: usize = 96;
+
+const MOST_EXTRAS: usize = 96;
 
 #[derive(Drop)]
 pub struct Book {

@@ -1,22 +1,28 @@
 // What a market is made of. A window, a product and a basket are named by their numbers, from 0.
-#[derive(Clone, Copy)]
+
+// How many products an order has quantities of; a Reserve service has fewer.
+pub const PRODUCTS: usize = 6;
+
+#[derive(Clone, Copy, Debug, PartialEq, Eq, Default)]
 pub enum Service {
-    Response,
-    Balancing,
-    Quick,
-    Slow,
+    #[default]
+    Response = 1,
+    Balancing = 2,
+    Quick = 3,
+    Slow = 4,
 }
 
 // Half hours of a day in which a service is bought.
-#[derive(Clone, Copy)]
+#[derive(Clone, Copy, Debug, PartialEq, Eq, Default)]
 pub struct Window {
     pub service: Service,
     pub start: u8,
     pub length: u8,
 }
 
-// An order to buy one product of a window. `family` is 0 for none; with `permit` it may pay above its price.
-#[derive(Clone, Copy)]
+// An order to buy one product of a window. With `permit` it may pay above its price.
+// `family` is 0 for none, and no Option: the rules are defined by the file's numbers, and 0 is one of them.
+#[derive(Clone, Copy, Debug, PartialEq, Eq, Default)]
 pub struct Buy {
     pub window: u8,
     pub product: u8,
@@ -26,33 +32,35 @@ pub struct Buy {
     pub permit: bool,
 }
 
-// A unit's offer for a window: what its parent sells, and at which price. `ring` is the number of its loop, 0 for none.
-#[derive(Clone, Copy)]
+// A unit's offer for a window: what its parent sells, and at which price.
+// `ring` is the number of its loop, 0 for none as `family` is of a buy.
+#[derive(Clone, Copy, Debug, PartialEq, Eq, Default)]
 pub struct Basket {
     pub unit: u16,
     pub window: u8,
     pub ring: u8,
-    pub quantities: [u16; 6],
+    pub quantities: [u16; PRODUCTS],
     pub price: i32,
 }
 
-#[derive(Clone, Copy)]
+#[derive(Clone, Copy, Debug, PartialEq, Eq, Default)]
 pub enum Role {
+    #[default]
     Child,
     Substitute,
 }
 
 // What is sold with a basket's parent, or in its place.
-#[derive(Clone, Copy)]
+#[derive(Clone, Copy, Debug, PartialEq, Eq, Default)]
 pub struct Extra {
     pub role: Role,
     pub basket: u8,
-    pub quantities: [u16; 6],
+    pub quantities: [u16; PRODUCTS],
     pub price: i32,
 }
 
 // One entry, of any kind.
-#[derive(Clone, Copy)]
+#[derive(Clone, Copy, Debug, PartialEq, Eq)]
 pub enum Entry {
     OfWindow(Window),
     OfBuy(Buy),

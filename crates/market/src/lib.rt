@@ -9,9 +9,11 @@ mod faults;
 mod laws;
 mod reading;
 mod services;
+mod variables;
 
 pub use book::Book;
 pub use closed::ClosedMarket;
-pub use entries::{Basket, Buy, Entry, Extra, Role, Service, Window};
+pub use entries::{Basket, Buy, Entry, Extra, PRODUCTS, Role, Service, Window};
 pub use faults::{Fault, Refusal};
 pub use laws::{figure, files_in_order, one_outcome};
+pub use variables::{FIRST_EXTRA, FIRST_PARENT, LINES, Order, VARIABLES};

@@ -1,7 +1,9 @@
 // Shows the market files that are named in the arguments as people read them.
 #![tactic(auto)]
 
+mod lines;
 mod names;
+mod sales;
 mod shows;
 mod times;
 

@@ -8,32 +8,8 @@ ghost use Rattle.market.specs.View.{market_of};
 
 use super::Book;
 use crate::faults::{Fault, Refusal};
-use crate::reading::entry;
-use records::{Kind, Reader, Record};
-
-// Windows, buys, baskets, children and substitutes, with how many fields each has.
-const MARKET_KINDS: [Kind; 5] = [
-    Kind {
-        number: 1,
-        fields: 3,
-    },
-    Kind {
-        number: 2,
-        fields: 6,
-    },
-    Kind {
-        number: 3,
-        fields: 10,
-    },
-    Kind {
-        number: 4,
-        fields: 8,
-    },
-    Kind {
-        number: 5,
-        fields: 8,
-    },
-];
+use crate::reading::{KINDS, entry};
+use records::{Reader, Record};
 
 impl Book {
     // Takes the entry of a record, or says what is wrong with it.
@@ -41,9 +17,7 @@ impl Book {
         ensures { Took (market_of self.old) (content given.now) result (market_of self.new) }
     {
         let entry = entry(given)?;
-        if let Some(fault) = self.fault(entry) {
-            return Err(fault);
-        }
+        self.check(entry)?;
         self.put(entry);
         Ok(())
     }
@@ -53,14 +27,12 @@ impl Book {
         ensures long { 65535 < length file.now → (result ≡ too_long) × (market_of self.new ≡ market_of self.old) }
         ensures reads { length file.now ≤ 65535 → Entered (market_of self.old) file.now result (market_of self.new) }
     {
-        let mut reader = Reader::open(file, &MARKET_KINDS)?;
+        let mut reader = Reader::open(file, &KINDS)?;
         while let Some(given) = reader.next()? {
-            if let Err(fault) = self.take(&given) {
-                return Err(Refusal {
-                    fault,
-                    place: given.place,
-                });
-            }
+            self.take(&given).map_err(|fault| Refusal {
+                fault,
+                place: given.place,
+            })?;
         }
         Ok(())
     }

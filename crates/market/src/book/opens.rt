@@ -4,7 +4,7 @@ ghost use Rattle.market.specs.Lawful.{Lawful};
 ghost use Rattle.market.specs.Market.{empty};
 ghost use Rattle.market.specs.View.{market_of, closed_of};
 
-use super::Book;
+use super::{Book, MOST_BASKETS, MOST_BUYS, MOST_EXTRAS, MOST_WINDOWS};
 use crate::closed::ClosedMarket;
 use std::alloc::{AllocError, Global};
 
@@ -13,10 +13,10 @@ impl Book {
     pub fn open(heap: Global) -> Result<Book, AllocError>
         ensures { IfOk result (λ b. market_of b ≡ empty) }
     {
-        let windows = Vec::with_capacity(heap, 32)?;
-        let buys = Vec::with_capacity(heap, 64)?;
-        let baskets = Vec::with_capacity(heap, 96)?;
-        let extras = Vec::with_capacity(heap, 96)?;
+        let windows = Vec::with_capacity(heap, MOST_WINDOWS)?;
+        let buys = Vec::with_capacity(heap, MOST_BUYS)?;
+        let baskets = Vec::with_capacity(heap, MOST_BASKETS)?;
+        let extras = Vec::with_capacity(heap, MOST_EXTRAS)?;
         Ok(Book {
             windows,
             buys,

@@ -1,12 +1,17 @@
 // What each fault is called.
-ghost use Rattle.std.specs.Prelude.{◌≡◌};
+ghost use Rattle.std.specs.Prelude.{◌≡◌, Some};
 ghost use Rattle.market.specs.declared.faults.Fault.TheVariants.{Record};
-ghost use Rattle.market.specs.Faults.{code};
+ghost use Rattle.market.specs.Faults.{code, refusal_text};
 
 use super::{Fault, Refusal};
 use records::Refusal as RecordRefusal;
+use std::fmt;
+
+// The layer of entries, next above that of files.
+const ENTRIES: u8 = 2;
 
 impl Fault {
+    // By cases: a fault of the records has its number there.
     pub fn number(self) -> u8
         ensures { result ≡ (code self).number }
     {
@@ -29,7 +34,7 @@ impl Fault {
             | Fault::Absent
             | Fault::TableFull
             | Fault::WindowOverlaps
-            | Fault::LoopBroken => 2,
+            | Fault::LoopBroken => ENTRIES,
         }
     }
 }
@@ -43,5 +48,16 @@ impl From<RecordRefusal> for Refusal {
             fault: Fault::Record(refusal.fault),
             place: refusal.place,
         }
+    }
+}
+
+// A refusal in print, as `6 at 12`.
+impl fmt::Display for Refusal {
+    ghost output = { λ r. Some (refusal_text r) };
+
+    fn fmt<W: fmt::Write>(&self, f: &mut fmt::Formatter<W>) -> fmt::Result {
+        let number = self.fault.number();
+        let place = self.place;
+        write!(f, "{number} at {place}")
     }
 }

@@ -7,14 +7,14 @@ use Rattle.records.specs.Readers.{file_of, kinds_of, place_of, Next}
 use Rattle.records.specs.Write.{Byte}
 use Rattle.market.specs.Files.{kinds}
 use Rattle.market.specs.View.{market_of}
-use Rattle.market.proofs.Running.{so_far_more}
+use Rattle.market.proofs.Running.{so_far_more, took_ok}
 use Rattle.market.proofs.book.Book.enter_records.Goals as goal
 
 pub loop-given-preserved : goal.loop-given-preserved
 loop-given-preserved c =
     let inv = c.loop-given.invariant in
     let told = c.in_ok-given.ensures in
-    let took = c.in_default-take.ensures in
+    let took = took_ok (market_of c.loop-given.self) (content c.in-Some.given) c.take.result c.map_err.result _ _ c.take.ensures c.map_err.ensures.variant c.in_ok-map_err.was in
     let file = c.args.file.now in
     let was = c.loop-given.reader in
     let p = place_of was in

@@ -1,8 +1,8 @@
-use Rattle.std.proofs.Common.{◌≤◌, length, vec_items, arith}
-use Rattle.market.proofs.Zeros.{zero_basket}
+use Rattle.std.proofs.Common.{vec_items, rules}
+use Rattle.market.specs.Market.{SameBasket, no_basket}
+use Rattle.market.proofs.Zeros.{entry_or, same_basket, zero_basket}
 use Rattle.market.proofs.closed.ClosedMarket.basket.Goals as goal
 
-pub returns : goal.returns
-returns c =
-    let past : length (vec_items c.args.self.now.book.baskets) ≤ c.args.b = omega (arith, c.basket_count.ensures, c.if-b-basket_count.false) in
-    record { entered = λ l. absurd (omega (arith, past, l)); same = zero_basket (vec_items c.args.self.now.book.baskets) c.args.b past }
+pub returns-clause-same : goal.returns-clause-same
+returns-clause-same c =
+    entry_or SameBasket _ no_basket (vec_items c.args.self.now.book.baskets) c.args.b c.copied.result _ same_basket (λ x p. zero_basket x p.0 p.1.0 p.1.1.0 p.1.1.1.0 p.1.1.1.1) (λ e. search rules) c.unwrap_or_default.ensures

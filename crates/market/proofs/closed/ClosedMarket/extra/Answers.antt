@@ -1,8 +1,8 @@
-use Rattle.std.proofs.Common.{◌≤◌, length, vec_items, arith}
-use Rattle.market.proofs.Zeros.{zero_extra}
+use Rattle.std.proofs.Common.{vec_items, rules}
+use Rattle.market.specs.Market.{SameExtra, no_extra}
+use Rattle.market.proofs.Zeros.{entry_or, same_extra, zero_extra}
 use Rattle.market.proofs.closed.ClosedMarket.extra.Goals as goal
 
-pub returns : goal.returns
-returns c =
-    let past : length (vec_items c.args.self.now.book.extras) ≤ c.args.k = omega (arith, c.extra_count.ensures, c.if-k-extra_count.false) in
-    record { entered = λ l. absurd (omega (arith, past, l)); same = zero_extra (vec_items c.args.self.now.book.extras) c.args.k past }
+pub returns-clause-same : goal.returns-clause-same
+returns-clause-same c =
+    entry_or SameExtra _ no_extra (vec_items c.args.self.now.book.extras) c.args.k c.copied.result _ same_extra (λ x p. zero_extra x p.0 p.1.0 p.1.1.0 p.1.1.1) (λ e. search rules) c.unwrap_or_default.ensures
