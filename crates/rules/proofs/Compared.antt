@@ -1,9 +1,9 @@
 -- What a comparison of signed numbers, as the code makes it, tells of the numbers of the rules.
-use Rattle.std.proofs.Common.{◌≡◌, ℕ, ◌+◌, ◌<◌, true, false, ℤ, pos, ◌+ℤ◌, ◌<ℤ◌, Decides, ◌∙◌, subst, arith, w32, w64, SFits, to_z, of_z}
-use lib.Signed.{lt_z, le_z, mag}
+use Rattle.std.proofs.Common.{◌≡◌, ℕ, ◌<◌, false, ℤ, pos, ◌<ℤ◌, Decides, ◌∙◌, subst, arith, w32, w64, to_z, of_z}
+use lib.Signed.{lt_z, mag}
 use Rattle.std.proofs.lemmas.Int.{ints}
 use Rattle.std.proofs.lemmas.Bool.{false≢true}
-use Rattle.numbers.specs.Sums.{Within}
+use Rattle.numbers.specs.Sums.{Within, Term}
 
 -- a number that fits 32 bits, or 64, as it is handed to a function
 abbrev pub cast : ℤ → ℤ
@@ -27,20 +27,16 @@ refutes h = ((λ e. absurd (false≢true e)), λ p. absurd (h p))
 decides_lt : (a b : ℤ) → Decides (lt_z a b) (a <ℤ b)
 decides_lt a b = ((λ t. grind (arith, ints)), λ h. grind (arith, ints))
 
--- a < b, for numbers that are those of the rules
-pub wide_less : (a b x y : ℤ) → mag a < 9223372036854775808 → mag b < 9223372036854775808 → a ≡ x → b ≡ y → Decides (lt_z (cast64 a) (cast64 b)) (x <ℤ y)
-wide_less a b x y p q e f =
-    subst (λ z. Decides (lt_z (cast64 a) (cast64 b)) (x <ℤ z)) (casts64 b q ∙ f) (subst (λ z. Decides (lt_z (cast64 a) (cast64 b)) (z <ℤ cast64 b)) (casts64 a p ∙ e) (decides_lt (cast64 a) (cast64 b)))
-
 pub below_zero : (a x : ℤ) → mag a < 9223372036854775808 → a ≡ x → Decides (lt_z (cast64 a) (pos 0)) (x <ℤ pos 0)
 below_zero a x p e = subst (λ z. Decides (lt_z (cast64 a) (pos 0)) (z <ℤ pos 0)) (casts64 a p ∙ e) (decides_lt (cast64 a) (pos 0))
 
-pub none_accepted : (x y : ℤ) → Within 10000 x → x ≡ y → le_z (cast x) (pos 0) ≡ true → pos 0 <ℤ y → ⊥
-none_accepted x y w e t h = let z = casts_parts x w in grind (arith, ints)
+-- an order has some parts
+pub accepted : (x y : ℤ) → Within 10000 x → x ≡ y → Decides (lt_z (pos 0) (cast x)) (pos 0 <ℤ y)
+accepted x y w e = subst (λ z. Decides (lt_z (pos 0) (cast x)) (pos 0 <ℤ z)) (casts_parts x w ∙ e) (decides_lt (pos 0) (cast x))
 
-pub accepted : (x y : ℤ) → Within 10000 x → x ≡ y → le_z (cast x) (pos 0) ≡ false → pos 0 <ℤ y
-accepted x y w e t = let z = casts_parts x w in grind (arith, ints)
-
--- one more term in 64 bits
-pub sum_fits : (z t : ℤ) (held size : ℕ) → Within held z → Within size t → held + size < 9223372036854775808 → SFits w64 (z +ℤ cast64 t)
-sum_fits z t held size p q l = omega (arith, ints)
+-- a term that is handed on in 64 bits
+pub term_on : (f : ℕ → ℤ) (size k : ℕ) (z : ℤ) → size < 9223372036854775808 → Term f size k z → Term f size k (cast64 z)
+term_on f size k z l t =
+    let w = t.small in
+    let e : cast64 z ≡ z = omega (arith, ints) in
+    record { is = e ∙ t.is; small = (omega (arith, ints), omega (arith, ints)) }

@@ -6,3 +6,4 @@ pub mod Surpluses
 pub mod Losses
 pub mod Verdicts
 pub mod Keeping
+pub mod Places

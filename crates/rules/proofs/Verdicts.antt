@@ -1,5 +1,5 @@
 -- The chain of rules: what is clear so far, and the verdict.
-use Rattle.std.proofs.Common.{◌≡◌, ℕ, ◌+◌, ◌<◌, ◌≤◌, cond, eqb, ℤ, Some, None, Option, sym, refl, ap, ◌∙◌, subst, ⊎_elim, arith}
+use Rattle.std.proofs.Common.{◌≡◌, ℕ, zero, suc, ◌+◌, ◌<◌, ◌≤◌, cond, eqb, [], ◌∷◌, get_or, ℤ, Some, None, Option, sym, refl, ap, ◌∙◌, subst, ⊎_elim, arith}
 use Rattle.std.proofs.lemmas.Bool.{cases_eq}
 use Rattle.rules.specs.declared.faults.Rule.{Rule}
 use Rattle.rules.specs.declared.faults.Rule.TheVariants.{WholeParents, ChildrenUnderParents, SubstitutesUnderParents, Families, Loops, Units, Balance, ExtraSurplus, BasketSurplus, BuyPrices}
@@ -27,6 +27,20 @@ back BuyPrices = refl
 
 same : (r s : Rule) → rule_number r ≡ rule_number s → r ≡ s
 same r s e = sym (back r) ∙ ap rule_of e ∙ back s
+
+-- the rules in order, by their turns
+pub in_turn : (n : ℕ) → n < 10 → rule_number (get_or (WholeParents ∷ ChildrenUnderParents ∷ SubstitutesUnderParents ∷ Families ∷ Loops ∷ Units ∷ Balance ∷ ExtraSurplus ∷ BasketSurplus ∷ BuyPrices ∷ []) n WholeParents) ≡ 12 + n
+in_turn zero l = refl
+in_turn (suc zero) l = refl
+in_turn (suc (suc zero)) l = refl
+in_turn (suc (suc (suc zero))) l = refl
+in_turn (suc (suc (suc (suc zero)))) l = refl
+in_turn (suc (suc (suc (suc (suc zero))))) l = refl
+in_turn (suc (suc (suc (suc (suc (suc zero)))))) l = refl
+in_turn (suc (suc (suc (suc (suc (suc (suc zero))))))) l = refl
+in_turn (suc (suc (suc (suc (suc (suc (suc (suc zero)))))))) l = refl
+in_turn (suc (suc (suc (suc (suc (suc (suc (suc (suc zero))))))))) l = refl
+in_turn (suc (suc (suc (suc (suc (suc (suc (suc (suc (suc n)))))))))) l = absurd (omega arith)
 
 module _ (m : Market) (X Y : ℕ → ℤ) where
   -- no rule with a number below n is broken

@@ -4,3 +4,6 @@ pub mod Faults
 pub mod Broken
 pub mod Scratch
 pub mod Sizes
+pub mod Views
+pub mod Sales
+pub mod Places

@@ -4,14 +4,18 @@
 mod amounts;
 mod balance;
 mod faults;
+mod filled;
+mod finds;
 mod orders;
 mod prices;
 mod reads;
+mod sales;
+mod sums;
 mod surplus;
 mod units;
 mod values;
 mod verdict;
 
 pub use faults::{Breach, Rule};
-pub use values::{cost, welfare};
-pub use verdict::{judge, unbroken_is_kept};
+pub use filled::Clearing;
+pub use verdict::unbroken_is_kept;

@@ -1,135 +1,140 @@
-// The rules on orders, one function each: the lowest place at which the rule is broken.
-ghost use Rattle.std.specs.Prelude.{◌≡◌, ◌<◌, length, ◌<ℤ◌, Decides, ◌≢◌};
+// The rules on orders: for each a test of one place, and the lowest place at which the rule is broken.
+ghost use Rattle.std.specs.Prelude.{◌≡◌, ◌<◌, length, Decides};
 ghost use Rattle.numbers.specs.Searches.{Lowest};
-ghost use Rattle.numbers.specs.Sums.{Summed};
-ghost use Rattle.market.specs.declared.entries.Role.TheVariants.{Child};
-ghost use Rattle.market.specs.View.{closed_of};
+ghost use Rattle.numbers.specs.Sums.{Summed, Term};
 ghost use Rattle.rules.specs.Clearings.{substitute_part, family_part};
-ghost use Rattle.rules.specs.Broken.{Broken, FirstOf};
-ghost use Rattle.rules.specs.Scratch.{Filled, parts_in, prices_in};
+ghost use Rattle.rules.specs.Broken.{Broken, FirstOf, SplitParent, ChildAbove, SubstitutesAbove, FamilyOverfull, LoopUneven};
+ghost use Rattle.rules.specs.Views.{market_of, parts_of, prices_of};
 
-use crate::amounts::{family_part, substitute_part};
 use crate::faults::Rule;
-use crate::reads::{basket, basket_count, buy, buy_count, extra, extra_count, parts_of};
-use market::{ClosedMarket, Extra, Role};
+use crate::filled::{Clearing, FULL};
+use market::{Order, Role};
+use numbers::{lowest_passing, sum_of};
 
-pub fn split_parent(m: &ClosedMarket, s: &[i32]) -> Option<usize>
-    requires { Filled s.now }
-    ensures { Lowest (Broken (closed_of m.now) (parts_in s.now) (prices_in s.now) Rule.WholeParents) result }
-{
-    for b in 0..basket_count(m) {
-        let parts = parts_of(s, 64 + b);
-        if parts != 0 && parts != 10_000 {
-            return Some(64 + b);
+// Families are numbered 1 to 64.
+const FAMILIES: usize = 64;
+
+impl<'a> Clearing<'a> {
+    // A parent with neither none nor all of its parts.
+    fn is_split(&self, b: usize) -> bool
+        requires { b < length (market_of self.now).baskets }
+        ensures { Decides result (SplitParent (parts_of self.now) b) }
+    {
+        let parts = self.parts(Order::Parent(b));
+        parts != 0 && parts != FULL
+    }
+
+    pub(crate) fn split_parent(&self) -> Option<usize>
+        ensures { Lowest (Broken (market_of self.now) (parts_of self.now) (prices_of self.now) Rule.WholeParents) result }
+    {
+        self.lowest_basket(|b| self.is_split(b))
+    }
+
+    // A child with more parts than its parent. A match, so that it stands there, too, what is asked of a substitute: nothing.
+    fn is_child_above(&self, k: usize) -> bool
+        requires { k < length (market_of self.now).extras }
+        ensures { Decides result (ChildAbove (market_of self.now) (parts_of self.now) k) }
+    {
+        let order = self.extra(k);
+        match order.role {
+            Role::Child => {
+                self.parts(Order::Extra(k)) > self.parts(Order::Parent(usize::from(order.basket)))
+            }
+            Role::Substitute => false,
         }
     }
-    None
-}
 
-fn is_child_above(order: Extra, child: i32, parent: i32) -> bool
-    ensures { Decides result ((order.role ≡ Child) × (parent <ℤ child)) }
-{
-    match order.role {
-        Role::Child => child > parent,
-        Role::Substitute => false,
+    pub(crate) fn child_above(&self) -> Option<usize>
+        ensures { Lowest (Broken (market_of self.now) (parts_of self.now) (prices_of self.now) Rule.ChildrenUnderParents) result }
+    {
+        self.lowest_extra(|k| self.is_child_above(k))
     }
-}
 
-pub fn child_above(m: &ClosedMarket, s: &[i32]) -> Option<usize>
-    requires { Filled s.now }
-    ensures { Lowest (Broken (closed_of m.now) (parts_in s.now) (prices_in s.now) Rule.ChildrenUnderParents) result }
-{
-    for k in 0..extra_count(m) {
-        let order = extra(m, k);
-        if is_child_above(
-            order,
-            parts_of(s, 160 + k),
-            parts_of(s, 64 + order.basket as usize),
-        ) {
-            return Some(160 + k);
+    // The parts of k if it is a substitute of basket b, else none.
+    fn substitute_part(&self, b: usize, k: usize) -> i64
+        requires { k < length (market_of self.now).extras }
+        ensures { Term (substitute_part (market_of self.now) (parts_of self.now) b) 10000 k result }
+    {
+        let order = self.extra(k);
+        match order.role {
+            Role::Substitute if usize::from(order.basket) == b => {
+                i64::from(self.parts(Order::Extra(k)))
+            }
+            _ => 0,
         }
     }
-    None
-}
 
-fn substitute_parts(m: &ClosedMarket, s: &[i32], b: usize) -> i64
-    requires { Filled s.now }
-    ensures { Summed (substitute_part (closed_of m.now) (parts_in s.now) b) 10000 (length (closed_of m.now).extras) result }
-{
-    let mut sum: i64 = 0;
-    for k in 0..extra_count(m) {
-        sum += substitute_part(extra(m, k), b, parts_of(s, 160 + k));
+    fn substitute_parts(&self, b: usize) -> i64
+        ensures { Summed (substitute_part (market_of self.now) (parts_of self.now) b) 10000 (length (market_of self.now).extras) result }
+    {
+        sum_of(self.extra_count(), |k| self.substitute_part(b, k))
     }
-    sum
-}
 
-pub fn substitutes_above(m: &ClosedMarket, s: &[i32]) -> Option<usize>
-    requires { Filled s.now }
-    ensures { Lowest (Broken (closed_of m.now) (parts_in s.now) (prices_in s.now) Rule.SubstitutesUnderParents) result }
-{
-    for b in 0..basket_count(m) {
-        if substitute_parts(m, s, b) > parts_of(s, 64 + b) as i64 {
-            return Some(64 + b);
+    // A basket whose substitutes together have more parts than its parent.
+    fn are_substitutes_above(&self, b: usize) -> bool
+        requires { b < length (market_of self.now).baskets }
+        ensures { Decides result (SubstitutesAbove (market_of self.now) (parts_of self.now) b) }
+    {
+        self.substitute_parts(b) > i64::from(self.parts(Order::Parent(b)))
+    }
+
+    pub(crate) fn substitutes_above(&self) -> Option<usize>
+        ensures { Lowest (Broken (market_of self.now) (parts_of self.now) (prices_of self.now) Rule.SubstitutesUnderParents) result }
+    {
+        self.lowest_basket(|b| self.are_substitutes_above(b))
+    }
+
+    // The parts of buy i if it is of family f, else none.
+    fn family_part(&self, f: usize, i: usize) -> i64
+        requires { i < length (market_of self.now).buys }
+        ensures { Term (family_part (market_of self.now) (parts_of self.now) f) 10000 i result }
+    {
+        if usize::from(self.buy(i).family) != f {
+            return 0;
         }
+        i64::from(self.parts(Order::Buy(i)))
     }
-    None
-}
 
-fn family_parts(m: &ClosedMarket, s: &[i32], f: usize) -> i64
-    requires { Filled s.now }
-    ensures { Summed (family_part (closed_of m.now) (parts_in s.now) f) 10000 (length (closed_of m.now).buys) result }
-{
-    let mut sum: i64 = 0;
-    for i in 0..buy_count(m) {
-        sum += family_part(buy(m, i), f, parts_of(s, i));
+    fn family_parts(&self, f: usize) -> i64
+        ensures { Summed (family_part (market_of self.now) (parts_of self.now) f) 10000 (length (market_of self.now).buys) result }
+    {
+        sum_of(self.buy_count(), |i| self.family_part(f, i))
     }
-    sum
-}
 
-pub fn family_overfull(m: &ClosedMarket, s: &[i32]) -> Option<usize>
-    requires { Filled s.now }
-    ensures { Lowest (Broken (closed_of m.now) (parts_in s.now) (prices_in s.now) Rule.Families) result }
-{
-    for f in 1..65 {
-        if family_parts(m, s, f) > 10_000 {
-            return Some(f);
-        }
+    // A family whose buys together have more than all parts; the number 0 stands for none.
+    fn is_overfull(&self, f: usize) -> bool
+        ensures { Decides result (FamilyOverfull (market_of self.now) (parts_of self.now) f) }
+    {
+        f > 0 && self.family_parts(f) > i64::from(FULL)
     }
-    None
-}
 
-// The first basket of b's loop.
-pub fn first_of(m: &ClosedMarket, b: usize) -> usize
-    requires { b < length (closed_of m.now).baskets }
-    ensures { FirstOf (closed_of m.now) b result }
-{
-    for c in 0..b {
-        if basket(m, c).ring == basket(m, b).ring {
-            return c;
-        }
+    pub(crate) fn family_overfull(&self) -> Option<usize>
+        ensures { Lowest (Broken (market_of self.now) (parts_of self.now) (prices_of self.now) Rule.Families) result }
+    {
+        lowest_passing(FAMILIES + 1, |f| self.is_overfull(f))
     }
-    b
-}
 
-fn is_uneven(ring: u8, parts: i32, first: i32) -> bool
-    ensures { Decides result ((ring ≢ 0) × (parts ≢ first)) }
-{
-    ring != 0 && parts != first
-}
-
-pub fn loop_uneven(m: &ClosedMarket, s: &[i32]) -> Option<usize>
-    requires { Filled s.now }
-    ensures { Lowest (Broken (closed_of m.now) (parts_in s.now) (prices_in s.now) Rule.Loops) result }
-{
-    for b in 0..basket_count(m) {
-        let first = first_of(m, b);
-        if is_uneven(
-            basket(m, b).ring,
-            parts_of(s, 64 + b),
-            parts_of(s, 64 + first),
-        ) {
-            return Some(64 + b);
-        }
+    // The first basket of b's loop.
+    pub(crate) fn first_of(&self, b: usize) -> usize
+        requires { b < length (market_of self.now).baskets }
+        ensures { FirstOf (market_of self.now) b result }
+    {
+        let ring = self.basket(b).ring;
+        lowest_passing(b, |c| self.basket(c).ring == ring).unwrap_or(b)
     }
-    None
+
+    // A basket in a loop whose parent has other parts than that of the loop's first basket.
+    fn is_uneven(&self, b: usize) -> bool
+        requires { b < length (market_of self.now).baskets }
+        ensures { Decides result (LoopUneven (market_of self.now) (parts_of self.now) b) }
+    {
+        let first = self.first_of(b);
+        self.basket(b).ring != 0 && self.parts(Order::Parent(b)) != self.parts(Order::Parent(first))
+    }
+
+    pub(crate) fn loop_uneven(&self) -> Option<usize>
+        ensures { Lowest (Broken (market_of self.now) (parts_of self.now) (prices_of self.now) Rule.Loops) result }
+    {
+        self.lowest_basket(|b| self.is_uneven(b))
+    }
 }

@@ -1,82 +1,64 @@
 // The price rules, one function each: the lowest place at which the rule is broken.
-ghost use Rattle.std.specs.Prelude.{◌≡◌, ◌<◌, false, length, pos, ◌<ℤ◌, Decides};
+ghost use Rattle.std.specs.Prelude.{◌≡◌, ◌<◌, length, Decides};
 ghost use Rattle.numbers.specs.Searches.{Lowest};
-ghost use Rattle.market.specs.View.{closed_of};
-ghost use Rattle.rules.specs.Broken.{Broken, BasketLoses};
-ghost use Rattle.rules.specs.Scratch.{Filled, parts_in, prices_in};
+ghost use Rattle.rules.specs.Broken.{Broken, ExtraLoses, BasketLoses, BuyOvercharged};
+ghost use Rattle.rules.specs.Views.{market_of, parts_of, prices_of};
 
 use crate::faults::Rule;
-use crate::orders::first_of;
-use crate::reads::{basket, basket_count, buy, buy_count, extra_count, parts_of, price_of};
-use crate::surplus::{basket_surplus, extra_surplus, loop_surplus};
-use market::{Buy, ClosedMarket};
+use crate::filled::Clearing;
+use market::Order;
+use numbers::lowest_passing;
 
-fn is_losing(parts: i32, surplus: i64) -> bool
-    ensures { Decides result ((pos 0 <ℤ parts) × (surplus <ℤ pos 0)) }
-{
-    parts > 0 && surplus < 0
-}
+impl<'a> Clearing<'a> {
+    // A child or substitute that is accepted and loses.
+    fn is_losing(&self, k: usize) -> bool
+        requires { k < length (market_of self.now).extras }
+        ensures { Decides result (ExtraLoses (market_of self.now) (parts_of self.now) (prices_of self.now) k) }
+    {
+        self.parts(Order::Extra(k)) > 0 && self.extra_surplus(k) < 0
+    }
 
-// A child or substitute that loses.
-pub fn extra_loses(m: &ClosedMarket, s: &[i32]) -> Option<usize>
-    requires { Filled s.now }
-    ensures { Lowest (Broken (closed_of m.now) (parts_in s.now) (prices_in s.now) Rule.ExtraSurplus) result }
-{
-    for k in 0..extra_count(m) {
-        if is_losing(parts_of(s, 160 + k), extra_surplus(m, s, k)) {
-            return Some(160 + k);
+    pub(crate) fn extra_loses(&self) -> Option<usize>
+        ensures { Lowest (Broken (market_of self.now) (parts_of self.now) (prices_of self.now) Rule.ExtraSurplus) result }
+    {
+        self.lowest_extra(|k| self.is_losing(k))
+    }
+
+    // A basket that loses, or the first basket of a loop that loses.
+    fn is_sunk(&self, b: usize) -> bool
+        requires { b < length (market_of self.now).baskets }
+        ensures { Decides result (BasketLoses (market_of self.now) (parts_of self.now) (prices_of self.now) b) }
+    {
+        let ring = self.basket(b).ring;
+        if ring == 0 {
+            return self.basket_surplus(b) < 0;
         }
-    }
-    None
-}
-
-fn is_sunk(m: &ClosedMarket, s: &[i32], b: usize) -> bool
-    requires { (Filled s.now) × (b < length (closed_of m.now).baskets) }
-    ensures { Decides result (BasketLoses (closed_of m.now) (parts_in s.now) (prices_in s.now) b) }
-{
-    let ring = basket(m, b).ring;
-    if ring == 0 {
-        return basket_surplus(m, s, b) < 0;
-    }
-    if first_of(m, b) != b {
-        return false;
-    }
-    loop_surplus(m, s, ring) < 0
-}
-
-// A basket that loses, or the first basket of a loop that loses.
-pub fn basket_loses(m: &ClosedMarket, s: &[i32]) -> Option<usize>
-    requires { Filled s.now }
-    ensures { Lowest (Broken (closed_of m.now) (parts_in s.now) (prices_in s.now) Rule.BasketSurplus) result }
-{
-    for b in 0..basket_count(m) {
-        if is_sunk(m, s, b) {
-            return Some(64 + b);
+        if self.first_of(b) != b {
+            return false;
         }
+        self.loop_surplus(ring) < 0
     }
-    None
-}
 
-fn is_overcharged(order: Buy, parts: i32, price: i32) -> bool
-    ensures { Decides result ((pos 0 <ℤ parts) × (order.permit ≡ false) × (order.price <ℤ price)) }
-{
-    parts > 0 && !order.permit && price > order.price
-}
-
-// A buy that pays more than its own price without a permit.
-pub fn buy_overcharged(m: &ClosedMarket, s: &[i32]) -> Option<usize>
-    requires { Filled s.now }
-    ensures { Lowest (Broken (closed_of m.now) (parts_in s.now) (prices_in s.now) Rule.BuyPrices) result }
-{
-    for i in 0..buy_count(m) {
-        let order = buy(m, i);
-        if is_overcharged(
-            order,
-            parts_of(s, i),
-            price_of(s, order.window, order.product as usize),
-        ) {
-            return Some(i);
-        }
+    pub(crate) fn basket_loses(&self) -> Option<usize>
+        ensures { Lowest (Broken (market_of self.now) (parts_of self.now) (prices_of self.now) Rule.BasketSurplus) result }
+    {
+        self.lowest_basket(|b| self.is_sunk(b))
     }
-    None
+
+    // An accepted buy that pays more than its own price without a permit.
+    fn is_overcharged(&self, i: usize) -> bool
+        requires { i < length (market_of self.now).buys }
+        ensures { Decides result (BuyOvercharged (market_of self.now) (parts_of self.now) (prices_of self.now) i) }
+    {
+        let order = self.buy(i);
+        let parts = self.parts(Order::Buy(i));
+        let price = self.price(order.window, usize::from(order.product));
+        parts > 0 && !order.permit && price > order.price
+    }
+
+    pub(crate) fn buy_overcharged(&self) -> Option<usize>
+        ensures { Lowest (Broken (market_of self.now) (parts_of self.now) (prices_of self.now) Rule.BuyPrices) result }
+    {
+        lowest_passing(self.buy_count(), |i| self.is_overcharged(i))
+    }
 }

@@ -1,61 +1,57 @@
 // A unit's baskets that share a half hour: at most one of them may be accepted.
 ghost use Rattle.std.specs.Prelude.{◌≡◌, ◌<◌, ◌≤◌, length, Decides};
 ghost use Rattle.numbers.specs.Searches.{Lowest};
-ghost use Rattle.market.specs.Market.{window_at, basket_at, Share};
-ghost use Rattle.market.specs.View.{closed_of};
-ghost use Rattle.rules.specs.Broken.{Broken, Clash};
-ghost use Rattle.rules.specs.Scratch.{Filled, parts_in, prices_in};
+ghost use Rattle.market.specs.Market.{window_at, basket_at};
+ghost use Rattle.rules.specs.Clearings.{Exclude};
+ghost use Rattle.rules.specs.Broken.{Broken, Clash, UnitTwice};
+ghost use Rattle.rules.specs.Views.{market_of, parts_of, prices_of};
 
 use crate::faults::Rule;
-use crate::reads::{basket, basket_count, parts_of};
-use market::{ClosedMarket, Window};
+use crate::filled::Clearing;
+use market::{Order, Window};
+use numbers::lowest_passing;
 
-fn share_half_hour(v: Window, w: Window) -> bool
-    requires { (1 ≤ v.length) × (1 ≤ w.length) }
-    ensures { Decides result (Share v w) }
-{
-    (v.start as usize) < w.start as usize + w.length as usize
-        && (w.start as usize) < v.start as usize + v.length as usize
-}
+impl<'a> Clearing<'a> {
+    fn window_of(&self, b: usize) -> Window
+        requires { b < length (market_of self.now).baskets }
+        ensures is { result ≡ window_at (market_of self.now) (basket_at (market_of self.now) b).window }
+        ensures some { 1 ≤ result.length }
+    {
+        self.market.window(usize::from(self.basket(b).window))
+    }
 
-fn window_of(m: &ClosedMarket, b: usize) -> Window
-    requires { b < length (closed_of m.now).baskets }
-    ensures is { result ≡ window_at (closed_of m.now) (basket_at (closed_of m.now) b).window }
-    ensures some { 1 ≤ result.length }
-{
-    m.window(basket(m, b).window as usize)
-}
+    // Two baskets of one unit that share a half hour.
+    fn exclude(&self, b: usize, c: usize) -> bool
+        requires { (b < length (market_of self.now).baskets) × (c < length (market_of self.now).baskets) }
+        ensures { Decides result (Exclude (market_of self.now) b c) }
+    {
+        let one = self.basket(b);
+        let other = self.basket(c);
+        let here = self.window_of(b);
+        let there = self.window_of(c);
+        b != c && one.unit == other.unit && here.shares(there)
+    }
 
-// Whether two accepted baskets of one unit share a half hour.
-fn clash(m: &ClosedMarket, s: &[i32], b: usize, c: usize) -> bool
-    requires { (Filled s.now) × ((b < length (closed_of m.now).baskets) × (c < length (closed_of m.now).baskets)) }
-    ensures { Decides result (Clash (closed_of m.now) (parts_in s.now) b c) }
-{
-    if b == c {
-        return false;
+    // Two that exclude each other, and are both accepted.
+    fn clash(&self, b: usize, c: usize) -> bool
+        requires { (b < length (market_of self.now).baskets) × (c < length (market_of self.now).baskets) }
+        ensures { Decides result (Clash (market_of self.now) (parts_of self.now) b c) }
+    {
+        let parts = self.parts(Order::Parent(b));
+        let others = self.parts(Order::Parent(c));
+        self.exclude(b, c) && parts > 0 && others > 0
     }
-    if basket(m, b).unit != basket(m, c).unit {
-        return false;
-    }
-    if parts_of(s, 64 + b) <= 0 {
-        return false;
-    }
-    if parts_of(s, 64 + c) <= 0 {
-        return false;
-    }
-    share_half_hour(window_of(m, b), window_of(m, c))
-}
 
-pub fn unit_twice(m: &ClosedMarket, s: &[i32]) -> Option<usize>
-    requires { Filled s.now }
-    ensures { Lowest (Broken (closed_of m.now) (parts_in s.now) (prices_in s.now) Rule.Units) result }
-{
-    for b in 0..basket_count(m) {
-        for c in 0..basket_count(m) {
-            if clash(m, s, b, c) {
-                return Some(64 + b);
-            }
-        }
+    fn clashes(&self, b: usize) -> bool
+        requires { b < length (market_of self.now).baskets }
+        ensures { Decides result (UnitTwice (market_of self.now) (parts_of self.now) b) }
+    {
+        lowest_passing(self.basket_count(), |c| self.clash(b, c)).is_some()
     }
-    None
+
+    pub(crate) fn unit_twice(&self) -> Option<usize>
+        ensures { Lowest (Broken (market_of self.now) (parts_of self.now) (prices_of self.now) Rule.Units) result }
+    {
+        self.lowest_basket(|b| self.clashes(b))
+    }
 }

@@ -1,21 +1,23 @@
-use Rattle.std.proofs.Common.{◌*◌, pos, ◌*ℤ◌, arith, w32, w64, to_z, of_z}
+use Rattle.std.proofs.Common.{◌≡◌, ℕ, ◌*◌, ◌≤◌, ℤ, pos, ◌*ℤ◌, arith, w64, to_z, of_z, rules}
 use Rattle.std.proofs.lemmas.Int.{ints}
+use Rattle.numbers.specs.Sums.{Within}
 use Rattle.numbers.proofs.Products.{Multiplied, multiplied}
 use Rattle.rules.proofs.amounts.worth.Goals as goal
 
-once : (c : goal.Start) → Multiplied (to_z w64 (of_z w64 (to_z w32 (of_z w32 c.args.price)))) (to_z w64 c.args.quantity) c.args.price (pos c.args.quantity) (99999 * c.args.quantity)
-once c = multiplied _ _ _ _ 99999 c.args.quantity (omega (arith, ints)) (omega (arith, ints)) c.requires.0 (omega (arith, ints), omega (arith, ints)) (omega arith)
+once : (u v p : ℤ) (q : ℕ) → u ≡ p → v ≡ pos q → Within 99999 p → q ≤ 9999 → Multiplied (to_z w64 (of_z w64 u)) (to_z w64 (of_z w64 v)) p (pos q) (99999 * q)
+once u v p q e f w l = multiplied _ _ _ _ 99999 q (omega (arith, ints)) (omega (arith, ints)) w (omega (arith, ints), omega (arith, ints)) (omega arith)
 
-twice : (c : goal.Start) → Multiplied
-    (to_z w64 (of_z w64 (to_z w64 (of_z w64 (to_z w32 (of_z w32 c.args.price))) *ℤ to_z w64 c.args.quantity))) (to_z w64 (of_z w64 (to_z w32 (of_z w32 c.args.parts))))
-    (c.args.price *ℤ pos c.args.quantity) c.args.parts (99999 * c.args.quantity * 10000)
-twice c = multiplied _ _ _ _ (99999 * c.args.quantity) 10000 (once c).is (omega (arith, ints)) (once c).small c.requires.2 (omega arith)
+twice : (u v p y x : ℤ) (q : ℕ) → u ≡ p → v ≡ pos q → y ≡ x → Within 99999 p → q ≤ 9999 → Within 10000 x → Multiplied
+    (to_z w64 (of_z w64 (to_z w64 (of_z w64 u) *ℤ to_z w64 (of_z w64 v)))) (to_z w64 (of_z w64 y)) (p *ℤ pos q) x (99999 * q * 10000)
+twice u v p y x q e f g w l s = let o = once u v p q e f w l in multiplied _ _ _ _ (99999 * q) 10000 o.is (omega (arith, ints)) o.small s (omega arith)
 
 pub overflow_mul-result : goal.overflow_mul-result
-overflow_mul-result c = (once c).fits
+overflow_mul-result c = (once c.from.result c.from-2.result c.args.price c.args.quantity (search rules) (search rules) c.requires.0 c.requires.1).fits
 
 pub overflow_mul-result-2 : goal.overflow_mul-result-2
-overflow_mul-result-2 c = (twice c).fits
+overflow_mul-result-2 c = (twice c.from.result c.from-2.result c.args.price c.from-3.result c.args.parts c.args.quantity (search rules) (search rules) (search rules) c.requires.0 c.requires.1 c.requires.2).fits
 
 pub returns : goal.returns
-returns c = let p = twice c in (p.is, (omega (arith, ints), omega (arith, ints)))
+returns c =
+    let p = twice c.from.result c.from-2.result c.args.price c.from-3.result c.args.parts c.args.quantity (search rules) (search rules) (search rules) c.requires.0 c.requires.1 c.requires.2 in
+    (p.is, (omega (arith, ints), omega (arith, ints)))

@@ -1,0 +1,8 @@
+use Rattle.std.proofs.Common.{rules}
+use Rattle.rules.specs.Broken.{ExtraLoses}
+use Rattle.rules.specs.Views.{market_of, parts_of, prices_of}
+use Rattle.rules.proofs.Places.{lowest_of}
+use Rattle.rules.proofs.filled.Clearing.extra_loses.Goals as goal
+
+pub returns : goal.returns
+returns c = lowest_of 160 _ (ExtraLoses (market_of c.args.self.now) (parts_of c.args.self.now) (prices_of c.args.self.now)) _ _ c.lowest_extra.ensures (λ k b l h. search rules)

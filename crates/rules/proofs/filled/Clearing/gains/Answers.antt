@@ -1,0 +1,12 @@
+use Rattle.std.proofs.Common.{rules, arith}
+use Rattle.rules.specs.Prices.{gain}
+use Rattle.rules.specs.Views.{prices_of}
+use Rattle.rules.proofs.filled.Clearing.gains.Goals as goal
+
+pub sum_of-requires-clause-fits : goal.sum_of-requires-clause-fits
+sum_of-requires-clause-fits c = (gain 1 (prices_of c.args.self.now) c.args.sale.window c.args.sale.quantities c.args.sale.price, 199798002, omega arith, λ k z l h. search rules)
+
+pub returns : goal.returns
+returns c =
+    let said = c.sum_of.ensures (gain 1 (prices_of c.args.self.now) c.args.sale.window c.args.sale.quantities c.args.sale.price) 199798002 (λ k z l h. search rules) in
+    search rules

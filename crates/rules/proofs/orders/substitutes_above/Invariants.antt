@@ -1,8 +1,0 @@
-use Rattle.numbers.specs.Searches.{Passed}
-use Rattle.market.specs.View.{closed_of}
-use Rattle.rules.specs.Scratch.{parts_in}
-use Rattle.rules.specs.Broken.{SubstitutesAbove}
-use Rattle.rules.proofs.orders.substitutes_above.Given as goal
-
-abbrev pub invariant-loop-b : goal.invariant-loop-b
-invariant-loop-b l = Passed (SubstitutesAbove (closed_of l.m) (parts_in l.s)) l.b

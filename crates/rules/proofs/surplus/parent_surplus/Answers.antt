@@ -1,7 +1,0 @@
-use Rattle.market.specs.View.{closed_of}
-use Rattle.rules.specs.Scratch.{parts_in, prices_in}
-use Rattle.rules.proofs.Surpluses.{parent_surplus_term}
-use Rattle.rules.proofs.surplus.parent_surplus.Goals as goal
-
-pub returns : goal.returns
-returns c = parent_surplus_term (closed_of c.args.m.now) (parts_in c.args.s.now) (prices_in c.args.s.now) _ _ _ _ _ c.basket-order.ensures.is c.basket-order.ensures.small.price c.parts_of.ensures.is c.parts_of.ensures.small c.gains.ensures c.gains.type_inv c.scaled.ensures

@@ -1,8 +1,0 @@
-use Rattle.numbers.specs.Sums.{Summed}
-use Rattle.market.specs.View.{closed_of}
-use Rattle.rules.specs.Scratch.{parts_in, prices_in}
-use Rattle.rules.specs.Prices.{parent_payment}
-use Rattle.rules.proofs.values.parents_paid.Given as goal
-
-abbrev pub invariant-loop-b : goal.invariant-loop-b
-invariant-loop-b l = Summed (parent_payment (closed_of l.m) (parts_in l.s) (prices_in l.s)) 5993940060000 l.b l.sum
