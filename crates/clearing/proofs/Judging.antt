@@ -1,5 +1,5 @@
 -- What a file that is read through leaves for the judge.
-use Rattle.std.proofs.Common.{◌≡◌, ℕ, ◌+◌, ◌<◌, ◌≤◌, ◌⊎◌, List, length, get_or, take, drop, ℤ, pos, Ok, Err, Result, sym, ap, subst, inl, ⊎_elim, arith}
+use Rattle.std.proofs.Common.{◌≡◌, ℕ, ◌+◌, ◌<◌, ◌≤◌, ◌⊎◌, List, length, get_or, take, drop, ℤ, pos, Ok, Err, Result, sym, subst, inl, ⊎_elim, arith}
 use Rattle.std.proofs.lemmas.Int.{ints}
 use Rattle.std.proofs.lemmas.Bool.{cases_lt}
 use Rattle.numbers.specs.Sums.{Within}
@@ -19,14 +19,11 @@ pub record Through (m : Market) (file : List ℕ) (was then : List ℤ) : Type 0
   pub reads : Reads m file (Ok tt) (take 448 then)
   pub beyond : drop 448 then ≡ drop 448 was
 
-ok_not_err : (e : Refusal) → ◌≡◌ {A = Result (Unit {0}) Refusal} (Ok tt) (Err e) → ⊥
-ok_not_err e p = let z : ◌≡◌ {A = ℕ} 0 1 = cc in omega arith
-
 pub through : (m : Market) (file : List ℕ) (was then : List ℤ) → Outcome m file was (Ok tt) then → Through m file was then
 through m file was then o = ⊎_elim
-    (λ (h : length was < 448). absurd (ok_not_err _ (o.short h).0))
+    (λ (h : length was < 448). let p = (o.short h).0 in absurd cc)
     (λ (h : 448 ≤ length was). ⊎_elim
-    (λ (l : 65535 < length file). absurd (ok_not_err _ (o.long h l).0))
+    (λ (l : 65535 < length file). let p = (o.long h l).0 in absurd cc)
     (λ (l : length file ≤ 65535). let r = o.reads h l in record { enough = h; few = l; reads = r.0; beyond = r.1 })
     (cases_lt 65535 (length file)))
     (cases_lt (length was) 448)
@@ -41,14 +38,11 @@ small_price m l y = ⊎_elim (λ (e : y ≡ pos 0). (omega (arith, ints), omega 
 pub filled : (m : Market) (ns : List ℤ) → Limits m ns → Filled ns
 filled m ns k = record { long = omega (arith, k.long); parts = k.parts; prices = λ l h. small_price m l (get_or ns (256 + l) (pos 0)) (k.prices l h) }
 
-err_same : (e f : Refusal) → ◌≡◌ {A = Result (Unit {0}) Refusal} (Err e) (Err f) → ◌≡◌ {A = Result Worth Refusal} (Err e) (Err f)
-err_same e f p = let i : e ≡ f = cc in ap Err i
-
 -- a file that is refused while it is read is refused for that
 pub not_read : (m : Market) (file : List ℕ) (was then : List ℤ) (e : Refusal) → Outcome m file was (Err e) then → Judged m file was (Err e) then
 not_read m file was then e o = record {
-  short = λ h. let p = o.short h in (err_same e _ p.0, p.1);
-  long = λ h l. let p = o.long h l in (err_same e _ p.0, p.1);
+  short = λ h. let p = o.short h in (cc, p.1);
+  long = λ h l. let p = o.long h l in (cc, p.1);
   told = λ h l. let p = o.reads h l in (inl p.0, p.1);
 }
 

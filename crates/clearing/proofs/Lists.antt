@@ -1,8 +1,9 @@
 -- The numbers of a file as a clearing and as a price list, in the words of the rules.
-use Rattle.std.proofs.Common.{◌≡◌, ℕ, ◌+◌, ◌-◌, ◌*◌, ◌/◌, ◌%◌, ◌<◌, ◌≤◌, Bool, true, false, cond, ◌&&◌, ltb, List, length, get_or, ℤ, pos, ◌≤ℤ◌, sym, refl, ap, ◌∙◌, ⊎_elim, arith}
+use Rattle.std.proofs.Common.{◌≡◌, ℕ, ◌+◌, ◌*◌, ◌/◌, ◌%◌, ◌<◌, ◌≤◌, true, false, ltb, List, length, get_or, ℤ, pos, ◌≤ℤ◌, refl, ⊎_elim, arith}
 use lib.Signed.{le_z}
 use Rattle.std.proofs.lemmas.Int.{ints}
-use Rattle.std.proofs.lemmas.Bool.{lt-ltb, le-ltb, ltb-true, and_parts}
+use Rattle.std.proofs.lemmas.Bool.{ltb-true, and_parts}
+use Rattle.std.proofs.lemmas.Bool.Decides.{nat_tests}
 use Rattle.market.specs.declared.entries.Service.{Service}
 use Rattle.market.specs.declared.entries.Service.TheVariants.{Response, Balancing, Quick, Slow}
 use Rattle.market.specs.Market.{Market, window_at}
@@ -13,24 +14,14 @@ use Rattle.rules.specs.Prices.{PriceList}
 use Rattle.clearing.specs.Marks.{is_order, is_line}
 use Rattle.clearing.proofs.Numbers.{Limits, Priced}
 
-below : (v n : ℕ) (x y : Bool) → v < n → cond (ltb v n) x y ≡ x
-below v n x y h = ap (λ b. cond b x y) (lt-ltb v n h)
-
-past : (v n : ℕ) (x y : Bool) → n ≤ v → cond (ltb v n) x y ≡ y
-past v n x y h = ap (λ b. cond b x y) (le-ltb v n h)
-
 no_other_buy : (m : Market) (i : ℕ) → length m.buys ≤ i → i < 64 → is_order m i ≡ false
-no_other_buy m i h l = below i 64 _ _ l ∙ le-ltb i (length m.buys) h
+no_other_buy m i h l = grind (arith, nat_tests)
 
 no_other_basket : (m : Market) (b : ℕ) → length m.baskets ≤ b → b < 96 → is_order m (64 + b) ≡ false
-no_other_basket m b h l =
-    let e : 64 + b - 64 ≡ b = omega arith in
-    past (64 + b) 64 _ _ (omega arith) ∙ below (64 + b) 160 _ _ (omega arith) ∙ ap (λ n. ltb n (length m.baskets)) e ∙ le-ltb b (length m.baskets) h
+no_other_basket m b h l = grind (arith, nat_tests)
 
 no_other_extra : (m : Market) (k : ℕ) → length m.extras ≤ k → is_order m (160 + k) ≡ false
-no_other_extra m k h =
-    let e : 160 + k - 160 ≡ k = omega arith in
-    past (160 + k) 64 _ _ (omega arith) ∙ past (160 + k) 160 _ _ (omega arith) ∙ ap (λ n. ltb n (length m.extras)) e ∙ le-ltb k (length m.extras) h
+no_other_extra m k h = grind (arith, nat_tests)
 
 pub is_clearing : (m : Market) → Lawful m → (ns : List ℤ) → Limits m ns → Clearing m 10000 (λ v. get_or ns v (pos 0))
 is_clearing m good ns k = record {
@@ -59,9 +50,7 @@ told : (m : Market) (w p : ℕ) (y : ℤ) → p < 6 → is_line m (6 * w + p) y 
 told m w p y h t =
     let a : (6 * w + p) / 6 ≡ w = omega arith in
     let b : (6 * w + p) % 6 ≡ p = omega arith in
-    let t' : ltb w (length m.windows) && (ltb p (terms (window_at m w).service).products && le_z (terms (window_at m w).service).floor y) ≡ true =
-    sym (ap (λ (n : ℕ). ltb n (length m.windows) && (ltb ((6 * w + p) % 6) (terms (window_at m n).service).products && le_z (terms (window_at m n).service).floor y)) a
-    ∙ ap (λ (n : ℕ). ltb w (length m.windows) && (ltb n (terms (window_at m w).service).products && le_z (terms (window_at m w).service).floor y)) b) ∙ t in
+    let t' = rw (a, b) at t in
     let q = and_parts (ltb w (length m.windows)) _ t' in
     let r = and_parts (ltb p (terms (window_at m w).service).products) (le_z (terms (window_at m w).service).floor y) q.1 in
     let f = r.1 in

@@ -1,10 +1,12 @@
 -- The numbers that marks in order leave are a clearing's parts and a price list.
-use Rattle.std.proofs.Common.{◌≡◌, ℕ, ◌+◌, ◌-◌, ◌/◌, ◌<◌, ◌≤◌, Bool, true, false, cond, ◌&&◌, ltb, ◌⊎◌, List, [], ◌∷◌, length, get_or, set, ℤ, pos, negsuc, ◌≤ℤ◌, Some, None, fold, Option, sym, refl, ap, ◌∙◌, subst, inl, inr, ⊎_elim, arith, length-set}
+use Rattle.std.proofs.Common.{◌≡◌, ℕ, ◌+◌, ◌/◌, ◌<◌, ◌≤◌, Bool, true, false, cond, ◌&&◌, ltb, ◌⊎◌, List, [], ◌∷◌, length, get_or, set, ℤ, pos, negsuc, ◌≤ℤ◌, Some, None, fold, Option, sym, refl, ap, ◌∙◌, subst, inl, inr, ⊎_elim, arith, length-set}
 use lib.Signed.{le_z}
-use Rattle.std.proofs.lemmas.List.{get_or-set_same, get_or-set_other}
+use Rattle.std.proofs.lemmas.List.{get_or-set_other}
+use Rattle.std.proofs.lemmas.Grind.{get_or-set_at}
+use Rattle.std.proofs.lemmas.Bool.Decides.{nat_tests}
 use Rattle.std.proofs.lemmas.Simd.{length-replicate, get_or-replicate}
 use Rattle.std.proofs.lemmas.Int.{ints}
-use Rattle.std.proofs.lemmas.Bool.{cases_eq, cases_lt, le-ltb, ltb-true, and_parts}
+use Rattle.std.proofs.lemmas.Bool.{cases_eq, cases_lt, ltb-true, and_parts}
 use Rattle.market.specs.Market.{Market}
 use Rattle.market.specs.Lawful.{Lawful}
 use Rattle.rules.specs.Clearings.{Parts as Share}
@@ -35,22 +37,15 @@ limits_none m = record {
   prices = λ l h. inl (get_or-replicate 448 (256 + l) (pos 0) (pos 0) (omega arith));
 }
 
--- a number that is set, and the others
-set_here : (ns : List ℤ) (i j : ℕ) (z : ℤ) → i < length ns → i ≡ j → get_or (set ns j z) i (pos 0) ≡ z
-set_here ns i j z h e = ap (λ k. get_or (set ns k z) i (pos 0)) (sym e) ∙ get_or-set_same ns i z (pos 0) h
-
-clash : {b : Bool} → b ≡ true → b ≡ false → ⊥
-clash p q = let z : ◌≡◌ {A = ℕ} 0 1 = cc in omega arith
-
 put_parts : (m : Market) (ns : List ℤ) (v : ℕ) (p : ℤ) → Limits m ns → v < 256 → is_order m v ≡ true → pos 0 ≤ℤ p → p ≤ℤ pos 10000 → Limits m (set ns v p)
 put_parts m ns v p k h t low high = record {
   long = length-set ns v p ∙ k.long;
   parts = λ w l. ⊎_elim
-      (λ (e : w ≡ v). let q = set_here ns w v p (omega (arith, k.long)) e in (omega (arith, ints), omega (arith, ints)))
+      (λ (e : w ≡ v). let q = get_or-set_at ns v w p (pos 0) e (omega (arith, k.long)) in (omega (arith, ints), omega (arith, ints)))
       (λ (d : w ≡ v → ⊥). let q = get_or-set_other ns v w p (pos 0) d in let o = k.parts w l in (omega (arith, ints), omega (arith, ints)))
       (cases_eq w v);
   absent = λ w l u. ⊎_elim
-      (λ (e : w ≡ v). absurd (clash t (ap (is_order m) (sym e) ∙ u)))
+      (λ (e : w ≡ v). absurd cc)
       (λ (d : w ≡ v → ⊥). get_or-set_other ns v w p (pos 0) d ∙ k.absent w l u)
       (cases_eq w v);
   prices = λ l b. subst (λ (z : ℤ). (z ≡ pos 0) ⊎ Priced m l z) (sym (get_or-set_other ns v (256 + l) p (pos 0) (λ e. omega arith))) (k.prices l b);
@@ -62,7 +57,7 @@ put_price m ns l y k h good = record {
   parts = λ w b. subst (Share 10000) (sym (get_or-set_other ns (256 + l) w y (pos 0) (λ e. omega arith))) (k.parts w b);
   absent = λ w b u. get_or-set_other ns (256 + l) w y (pos 0) (λ e. omega arith) ∙ k.absent w b u;
   prices = λ w b. ⊎_elim
-      (λ (e : w ≡ l). subst (λ (z : ℤ). (z ≡ pos 0) ⊎ Priced m w z) (sym (set_here ns (256 + w) (256 + l) y (omega (arith, k.long)) (ap (λ n. 256 + n) e))) (inr (subst (λ (n : ℕ). Priced m n y) (sym e) good)))
+      (λ (e : w ≡ l). subst (λ (z : ℤ). (z ≡ pos 0) ⊎ Priced m w z) (sym (get_or-set_at ns (256 + l) (256 + w) y (pos 0) (ap (λ n. 256 + n) e) (omega (arith, k.long)))) (inr (subst (λ (n : ℕ). Priced m n y) (sym e) good)))
       (λ (d : w ≡ l → ⊥). subst (λ (z : ℤ). (z ≡ pos 0) ⊎ Priced m w z) (sym (get_or-set_other ns (256 + l) (256 + w) y (pos 0) (λ e. d (omega arith)))) (k.prices w b))
       (cases_eq w l);
 }
@@ -71,14 +66,8 @@ put_price m ns l y k h good = record {
 order_few : (m : Market) → Lawful m → (v : ℕ) → is_order m v ≡ true → v < 256
 order_few m good v t = ⊎_elim
     (λ (a : v < 256). a)
-    (λ (a : 256 ≤ v).
-    let p : is_order m v ≡ ltb (v - 160) (length m.extras) = past v 64 _ _ (omega arith) ∙ past v 160 _ _ (omega arith) in
-    let q = ltb-true (v - 160) (length m.extras) (sym p ∙ t) in
-    absurd (omega (arith, good.few_extras)))
+    (λ (a : 256 ≤ v). let few = good.few_extras in absurd (grind (arith, nat_tests)))
     (cases_lt v 256)
-  where
-    past : (v n : ℕ) (x y : Bool) → n ≤ v → cond (ltb v n) x y ≡ y
-    past v n x y h = ap (λ b. cond b x y) (le-ltb v n h)
 
 line_few : (m : Market) → Lawful m → (l : ℕ) (y : ℤ) → is_line m l y ≡ true → l < 192
 line_few m good l y t =
@@ -92,21 +81,21 @@ fine m last x = both (rises last x) (in_limits x) (is_named m x)
   where
     both : (a b c : Bool) → cond a (cond b (cond c None (Some Absent)) (Some OutsideLimits)) (Some NotRising) ≡ None → (b ≡ true) × (c ≡ true)
     both true true true e = (refl, refl)
-    both true true false e = let z : ◌≡◌ {A = ℕ} 0 1 = cc in absurd (omega arith)
-    both true false c e = let z : ◌≡◌ {A = ℕ} 0 1 = cc in absurd (omega arith)
-    both false b c e = let z : ◌≡◌ {A = ℕ} 0 1 = cc in absurd (omega arith)
+    both true true false e = absurd cc
+    both true false c e = absurd cc
+    both false b c e = absurd cc
 
 put_mark : (m : Market) → Lawful m → (ns : List ℤ) (x : Mark) → in_limits x ≡ true → is_named m x ≡ true → Limits m ns → Limits m (set ns (place_of x) (amount_of x))
 put_mark m good ns (Parts (pos v) p) a b k =
     let q = and_parts (le_z (pos 1) p) (le_z p (pos 10000)) a in
     let s = order_few m good v b in
     subst (λ (n : ℕ). Limits m (set ns n p)) (omega arith) (put_parts m ns v p k s b (grind (arith, ints)) (grind (arith, ints)))
-put_mark m good ns (Parts (negsuc v) p) a b k = let z : ◌≡◌ {A = ℕ} 0 1 = cc in absurd (omega arith)
+put_mark m good ns (Parts (negsuc v) p) a b k = absurd cc
 put_mark m good ns (Price (pos l) y) a b k =
     let q = and_parts _ (le_z (negsuc 99998) y && le_z y (pos 99999)) a in
     let r = and_parts (le_z (negsuc 99998) y) (le_z y (pos 99999)) q.1 in
     put_price m ns l y k (line_few m good l y b) (record { line = b; low = grind (arith, ints); high = grind (arith, ints) })
-put_mark m good ns (Price (negsuc l) y) a b k = let z : ◌≡◌ {A = ℕ} 0 1 = cc in absurd (omega arith)
+put_mark m good ns (Price (negsuc l) y) a b k = absurd cc
 
 fold_limits : (m : Market) → Lawful m → (ns : List ℤ) (last : Option Mark) (xs : List Mark) → Limits m ns → InOrder m last xs → Limits m (fold (λ numbers x. set numbers (place_of x) (amount_of x)) ns xs)
 fold_limits m good ns last [] k o = k

@@ -10,24 +10,14 @@ use Rattle.clearing.specs.declared.marks.Mark.{Mark}
 use Rattle.clearing.specs.Files.{kinds, fault_of, Run, Stops, Ends, Runs}
 use Rattle.clearing.specs.Marks.{mark_of, marked}
 
--- what stands at a place is one thing
-same_content : (r : Result Content below.Fault) (c d : Content) → r ≡ Ok c → r ≡ Ok d → c ≡ d
-same_content r c d p q = cc
-
-none_not_some : {o : Option Fault} {f : Fault} → o ≡ None → o ≡ Some f → ⊥
-none_not_some p q = let z : ◌≡◌ {A = ℕ} 0 1 = cc in omega arith
-
-some_fault : {f g : Fault} → ◌≡◌ {A = Option Fault} (Some f) (Some g) → f ≡ g
-some_fault e = cc
-
 stops_one : (m : Market) (last : Option Mark) (r : Result Content below.Fault) (f g : Fault) → Stops m last r f → Stops m last r g → f ≡ g
-stops_one m last (Ok c) f g p q = some_fault (sym p ∙ q)
-stops_one m last (Err e) f g p q = p ∙ sym q
+stops_one m last (Ok c) f g p q = cc
+stops_one m last (Err e) f g p q = cc
 
 -- where a mark in order stands, the file does not stop
 goes_on : (m : Market) (last : Option Mark) (r : Result Content below.Fault) (f : Fault) (c : Content) → Stops m last r f → r ≡ Ok c → fault_of m last (mark_of c) ≡ None → ⊥
-goes_on m last (Ok d) f c p e n = none_not_some n (subst (λ (x : Content). fault_of m last (mark_of x) ≡ Some f) (same_content (Ok d) d c refl e) p)
-goes_on m last (Err x) f c p e n = let z : ◌≡◌ {A = ℕ} 0 1 = cc in omega arith
+goes_on m last (Ok d) f c p e n = cc
+goes_on m last (Err x) f c p e n = cc
 
 same_refusal : (a b : Refusal) → a.fault ≡ b.fault → a.place ≡ b.place → a ≡ b
 same_refusal a b p q = ap (λ (f : Fault). record { fault = f; place = a.place }) p ∙ ap (λ (n : ℕ). record { fault = b.fault; place = n }) q
@@ -58,7 +48,7 @@ way_one m file p last (x ∷ xs) q end r [] t stop s a b c d =
     let d' = subst (λ (n : ℕ). Ends m file n last s) c.0 (subst (λ (o : Option Mark). Ends m file t o s) c.1 d) in
     absurd (not_end m file p last s a.0 d' a.1 (ap (fault_of m last) (sym a.2) ∙ a.3))
 way_one m file p last (x ∷ xs) q end r (y ∷ ys) t stop s a b c d =
-    let same : c.0 ≡ a.0 = same_content (read kinds (drop p file)) c.0 a.0 c.1 a.1 in
+    let same : c.0 ≡ a.0 = (let u = c.1 in let v = a.1 in cc) in
     let head : y ≡ x = c.2 ∙ (ap mark_of same ∙ sym a.2) in
     let rest : Run m file (p + a.0.size) (Some x) ys t stop =
     subst (λ (o : Mark). Run m file (p + a.0.size) (Some o) ys t stop) head (subst (λ (e : Content). Run m file (p + e.size) (Some y) ys t stop) same c.4) in

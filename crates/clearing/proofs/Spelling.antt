@@ -24,7 +24,7 @@ take_two (x ∷ y ∷ zs) h = refl
 two_fields : (b d : Bool) (count : ℕ) → cond b (Some 2) (cond d (Some 2) None) ≡ Some count → count ≡ 2
 two_fields true d count e = cc
 two_fields false true count e = cc
-two_fields false false count e = let z : ◌≡◌ {A = ℕ} 0 1 = cc in absurd (omega arith)
+two_fields false false count e = absurd cc
 
 -- the encoding of a mark
 abbrev written : Mark → List ℕ
@@ -42,8 +42,7 @@ same_record a b k count e =
     (λ (seven : 7 ≡ k). subst (Same a b) seven refl)
     (λ (seven : 7 ≡ k → ⊥).
     let n : field_count kinds k ≡ None = cond-false (eqb 6 k) _ _ (ne_eqb 6 k six) ∙ cond-false (eqb 7 k) _ _ (ne_eqb 7 k seven) in
-    let z : ◌≡◌ {A = ℕ} 0 1 = cc in
-    absurd (omega arith))
+    absurd cc)
     (cases_eq 7 k))
     (cases_eq 6 k)
 

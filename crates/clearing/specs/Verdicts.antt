@@ -1,5 +1,6 @@
 -- The verdict on a clearing file: what it is worth where it keeps every rule, else why and where it is refused.
-use Rattle.std.specs.Prelude.{◌≡◌, ℕ, ◌<◌, ◌≤◌, ◌⊎◌, List, length, take, drop, ℤ, Ok, Err, Result}
+use Rattle.std.specs.Prelude.{◌≡◌, ℕ, ◌<◌, ◌≤◌, ◌⊎◌, List, ◌++◌, length, take, drop, codes, ℤ, Ok, Err, Result}
+use Rattle.std.specs.Fmt.{signed_decimal}
 use Rattle.records.specs.declared.Fault.TheVariants.{TooLong}
 use Rattle.market.specs.Market.{Market}
 use Rattle.rules.specs.declared.faults.Rule.{Rule}
@@ -42,3 +43,7 @@ pub record Judged (m : Market) (file : List ℕ) (was : List ℤ) (r : Result Wo
   pub short : length was < 448 → (r ≡ refused_at0 ScratchTooShort) × (then ≡ was)
   pub long : 448 ≤ length was → 65535 < length file → (r ≡ refused_at0 (Record TooLong)) × (then ≡ was)
   pub told : 448 ≤ length was → length file ≤ 65535 → Told m file r (take 448 then) × (drop 448 then ≡ drop 448 was)
+
+-- how a worth reads
+abbrev pub worth_text : Worth → List ℕ
+worth_text w = codes "welfare " ++ (signed_decimal w.welfare ++ (codes ", cost " ++ signed_decimal w.cost))

@@ -1,10 +1,16 @@
 // Why a clearing file is refused.
-ghost use Rattle.std.specs.Prelude.{◌≡◌};
-ghost use Rattle.clearing.specs.Faults.{code, from_records};
+ghost use Rattle.std.specs.Prelude.{◌≡◌, Some};
+ghost use Rattle.clearing.specs.Faults.{code, from_records, from_rules, refusal_text};
 
-use rules::Rule;
+use rules::{Breach, Rule};
+use std::fmt;
 
-#[derive(Clone, Copy)]
+// The layer of marks, next above that of files, and the layer of calls, above the rules and the bound.
+const MARKS: u8 = 2;
+
+const CALLS: u8 = 5;
+
+#[derive(Clone, Copy, Debug, PartialEq, Eq)]
 pub enum Fault {
     // a fault of the file's records
     Record(records::Fault),
@@ -20,14 +26,23 @@ pub enum Fault {
     ScratchTooShort,
 }
 
-// What is wrong, and where.
-#[derive(Clone, Copy)]
+// What is wrong, and where. Each crate that refuses has a refusal of its own: with one struct over all types of fault, no
+// crate above could write the `From` by which `?` carries a refusal up.
+#[derive(Clone, Copy, Debug, PartialEq, Eq)]
 pub struct Refusal {
     pub fault: Fault,
     pub place: usize,
 }
 
 impl Fault {
+    // The refusal for this fault at this place.
+    pub(crate) fn at(self, place: usize) -> Refusal
+        ensures { result ≡ record { fault = self; place = place } }
+    {
+        Refusal { fault: self, place }
+    }
+
+    // By cases and not by the variant's own number, since a fault of the records or the rules has its number there.
     pub fn number(self) -> u8
         ensures { result ≡ (code self).number }
     {
@@ -46,9 +61,9 @@ impl Fault {
     {
         match self {
             Fault::Record(fault) => fault.layer(),
-            Fault::NotRising | Fault::OutsideLimits | Fault::Absent => 2,
+            Fault::NotRising | Fault::OutsideLimits | Fault::Absent => MARKS,
             Fault::Broken(rule) => rule.layer(),
-            Fault::ScratchTooShort => 5,
+            Fault::ScratchTooShort => CALLS,
         }
     }
 }
@@ -62,5 +77,29 @@ impl From<records::Refusal> for Refusal {
             fault: Fault::Record(e.fault),
             place: e.place,
         }
+    }
+}
+
+// A broken rule is refused where it is broken.
+impl From<Breach> for Refusal {
+    ghost from_gives = { λ breach r. r ≡ from_rules breach };
+
+    fn from(breach: Breach) -> Refusal {
+        Refusal {
+            fault: Fault::Broken(breach.rule),
+            place: breach.place,
+        }
+    }
+}
+
+// The fault's number, its layer and the place, as `20 (layer 3) at 65`.
+impl fmt::Display for Refusal {
+    ghost output = { λ r. Some (refusal_text r) };
+
+    fn fmt<W: fmt::Write>(&self, f: &mut fmt::Formatter<W>) -> fmt::Result {
+        let number = self.fault.number();
+        let layer = self.fault.layer();
+        let place = self.place;
+        write!(f, "{number} (layer {layer}) at {place}")
     }
 }

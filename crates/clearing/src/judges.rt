@@ -4,11 +4,11 @@ ghost use Rattle.numbers.specs.Sums.{Within};
 ghost use Rattle.market.specs.View.{closed_of};
 ghost use Rattle.clearing.specs.Verdicts.{Judged};
 
-use crate::faults::{Fault, Refusal};
+use crate::faults::Refusal;
 use crate::files::{NUMBERS, read_clearing};
 use crate::worth::Worth;
 use market::ClosedMarket;
-use rules::{cost, judge, welfare};
+use rules::Clearing;
 
 // Reads a clearing file into the first 448 numbers of the scratch, and judges it: its welfare and its cost where it
 // keeps every rule, else what is wrong with the file, or the first rule that it breaks at its lowest place.
@@ -17,15 +17,10 @@ pub fn judge_file(market: &ClosedMarket, file: &[u8], scratch: &mut [i32]) -> Re
     ensures size { IfOk result (λ w. Within 5000000000000000 w.cost) }
 {
     read_clearing(market, file, scratch)?;
-    let numbers = &scratch[0..NUMBERS];
-    if let Err(breach) = judge(market, numbers) {
-        return Err(Refusal {
-            fault: Fault::Broken(breach.rule),
-            place: breach.place,
-        });
-    }
+    let clearing = Clearing::over(market, &scratch[0..NUMBERS]);
+    clearing.judge()?;
     Ok(Worth {
-        welfare: welfare(market, numbers),
-        cost: cost(market, numbers),
+        welfare: clearing.welfare(),
+        cost: clearing.cost(),
     })
 }

@@ -8,6 +8,6 @@ mod marks;
 mod worth;
 
 pub use faults::{Fault, Refusal};
-pub use files::read_clearing;
+pub use files::{NUMBERS, read_clearing};
 pub use judges::judge_file;
 pub use worth::Worth;

@@ -1,212 +1,97 @@
-// The clearings that are judged, each a file over a market file; the text beside each file has its records.
-pub struct Case {
+// The clearings that are judged: for each market file the clearing files over it. The text beside each file has its records.
+pub struct Cases {
     pub market: &'static str,
-    pub clearing: &'static str,
+    pub clearings: &'static [&'static str],
 }
 
-pub const CASES: [Case; 51] = [
-    Case {
+pub const CASES: [Cases; 14] = [
+    Cases {
         market: "plain.bin",
-        clearing: "nothing.bin",
+        clearings: &[
+            "nothing.bin",
+            "full.bin",
+            "full-6999.bin",
+            "full-9000.bin",
+            "full-9001.bin",
+            "half.bin",
+            "oversold.bin",
+        ],
     },
-    Case {
-        market: "plain.bin",
-        clearing: "full.bin",
-    },
-    Case {
-        market: "plain.bin",
-        clearing: "full-6999.bin",
-    },
-    Case {
-        market: "plain.bin",
-        clearing: "full-9000.bin",
-    },
-    Case {
-        market: "plain.bin",
-        clearing: "full-9001.bin",
-    },
-    Case {
-        market: "plain.bin",
-        clearing: "half.bin",
-    },
-    Case {
-        market: "plain.bin",
-        clearing: "oversold.bin",
-    },
-    Case {
+    Cases {
         market: "linked.bin",
-        clearing: "split-parents.bin",
+        clearings: &[
+            "split-parents.bin",
+            "child-without-parent.bin",
+            "child-beyond-parent.bin",
+            "substitutes-together.bin",
+            "family-together.bin",
+            "loop-in-part.bin",
+            "loop-second-only.bin",
+            "unit-twice.bin",
+            "short.bin",
+            "child-loses.bin",
+            "substitute-loses.bin",
+            "basket-loses.bin",
+            "loop-loses.bin",
+            "loop-even.bin",
+            "buy-overcharged.bin",
+            "whole-day.bin",
+        ],
     },
-    Case {
-        market: "linked.bin",
-        clearing: "child-without-parent.bin",
-    },
-    Case {
-        market: "linked.bin",
-        clearing: "child-beyond-parent.bin",
-    },
-    Case {
-        market: "linked.bin",
-        clearing: "substitutes-together.bin",
-    },
-    Case {
-        market: "linked.bin",
-        clearing: "family-together.bin",
-    },
-    Case {
-        market: "linked.bin",
-        clearing: "loop-in-part.bin",
-    },
-    Case {
-        market: "linked.bin",
-        clearing: "loop-second-only.bin",
-    },
-    Case {
-        market: "linked.bin",
-        clearing: "unit-twice.bin",
-    },
-    Case {
-        market: "linked.bin",
-        clearing: "short.bin",
-    },
-    Case {
-        market: "linked.bin",
-        clearing: "child-loses.bin",
-    },
-    Case {
-        market: "linked.bin",
-        clearing: "substitute-loses.bin",
-    },
-    Case {
-        market: "linked.bin",
-        clearing: "basket-loses.bin",
-    },
-    Case {
-        market: "linked.bin",
-        clearing: "loop-loses.bin",
-    },
-    Case {
-        market: "linked.bin",
-        clearing: "loop-even.bin",
-    },
-    Case {
-        market: "linked.bin",
-        clearing: "buy-overcharged.bin",
-    },
-    Case {
-        market: "linked.bin",
-        clearing: "whole-day.bin",
-    },
-    Case {
+    Cases {
         market: "welfare.bin",
-        clearing: "welfare-80.bin",
+        clearings: &["welfare-80.bin"],
     },
-    Case {
+    Cases {
         market: "either1.bin",
-        clearing: "to-response.bin",
+        clearings: &["to-response.bin", "to-reserve-1190.bin"],
     },
-    Case {
-        market: "either1.bin",
-        clearing: "to-reserve-1190.bin",
-    },
-    Case {
+    Cases {
         market: "either2.bin",
-        clearing: "to-response.bin",
+        clearings: &["to-response.bin", "to-reserve-1210.bin"],
     },
-    Case {
-        market: "either2.bin",
-        clearing: "to-reserve-1210.bin",
-    },
-    Case {
+    Cases {
         market: "either3.bin",
-        clearing: "to-response.bin",
+        clearings: &["to-response.bin", "to-reserve-1200.bin", "to-both.bin"],
     },
-    Case {
-        market: "either3.bin",
-        clearing: "to-reserve-1200.bin",
-    },
-    Case {
-        market: "either3.bin",
-        clearing: "to-both.bin",
-    },
-    Case {
+    Cases {
         market: "paradox.bin",
-        clearing: "both-28.bin",
+        clearings: &["both-28.bin", "both-30.bin", "both-51.bin"],
     },
-    Case {
-        market: "paradox.bin",
-        clearing: "both-30.bin",
-    },
-    Case {
-        market: "paradox.bin",
-        clearing: "both-51.bin",
-    },
-    Case {
+    Cases {
         market: "overholding.bin",
-        clearing: "fifteen.bin",
+        clearings: &["fifteen.bin", "thirty.bin"],
     },
-    Case {
-        market: "overholding.bin",
-        clearing: "thirty.bin",
-    },
-    Case {
+    Cases {
         market: "unpermitted.bin",
-        clearing: "thirty.bin",
+        clearings: &["thirty.bin"],
     },
-    Case {
+    Cases {
         market: "order.bin",
-        clearing: "shared-in-order.bin",
+        clearings: &["shared-in-order.bin", "unshared-in-order.bin"],
     },
-    Case {
-        market: "order.bin",
-        clearing: "unshared-in-order.bin",
-    },
-    Case {
+    Cases {
         market: "basket.bin",
-        clearing: "shared-in-basket.bin",
+        clearings: &["shared-in-basket.bin", "parent-alone.bin"],
     },
-    Case {
-        market: "basket.bin",
-        clearing: "parent-alone.bin",
-    },
-    Case {
+    Cases {
         market: "loop.bin",
-        clearing: "shared-in-loop.bin",
+        clearings: &["shared-in-loop.bin", "parent-alone.bin"],
     },
-    Case {
-        market: "loop.bin",
-        clearing: "parent-alone.bin",
-    },
-    Case {
+    Cases {
         market: "unlooped.bin",
-        clearing: "shared-in-loop.bin",
+        clearings: &["shared-in-loop.bin"],
     },
-    Case {
+    Cases {
         market: "plain.bin",
-        clearing: "not-rising.bin",
-    },
-    Case {
-        market: "plain.bin",
-        clearing: "parts-after-prices.bin",
-    },
-    Case {
-        market: "plain.bin",
-        clearing: "too-many-parts.bin",
-    },
-    Case {
-        market: "plain.bin",
-        clearing: "no-such-order.bin",
-    },
-    Case {
-        market: "plain.bin",
-        clearing: "no-such-product.bin",
-    },
-    Case {
-        market: "plain.bin",
-        clearing: "no-parts.bin",
-    },
-    Case {
-        market: "plain.bin",
-        clearing: "cut-short.bin",
+        clearings: &[
+            "not-rising.bin",
+            "parts-after-prices.bin",
+            "too-many-parts.bin",
+            "no-such-order.bin",
+            "no-such-product.bin",
+            "no-parts.bin",
+            "cut-short.bin",
+        ],
     },
 ];
