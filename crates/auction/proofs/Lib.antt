@@ -1,4 +1,6 @@
 pub mod Entries
+pub mod Offers
+pub mod Firsts
 pub mod Spread
 pub mod RowSums
 pub mod Places

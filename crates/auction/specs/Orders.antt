@@ -3,6 +3,8 @@
 use Rattle.std.specs.Prelude.{ℕ, ◌+◌, ◌*◌, ◌/◌, ◌%◌, cond, List, ℤ, pos, ◌*ℤ◌, ◌==◌, slice_index}
 use Rattle.market.specs.Market.{Market, buy_at, basket_at, extra_at}
 use Rattle.rules.specs.Clearings.{extra_window}
+use Rattle.auction.specs.declared.rows.Measure.{Measure}
+use Rattle.auction.specs.declared.rows.Measure.TheVariants.{On, Value}
 
 -- the line of a buy
 abbrev pub buy_line : Market → ℕ → ℕ
@@ -40,3 +42,8 @@ basket_value m b = order_value (basket_at m b).price (total (basket_at m b).quan
 
 abbrev pub extra_value : Market → ℕ → ℤ
 extra_value m k = order_value (extra_at m k).price (total (extra_at m k).quantities)
+
+-- what is measured of a sell order in window w: the quantity that it offers on a line, or its price × total quantity
+abbrev pub offered : ℕ → List ℕ → ℤ → Measure → ℤ
+offered w quantities price (On l) = pos (sell_on w quantities l)
+offered w quantities price Value = order_value price (total quantities)

@@ -92,6 +92,11 @@ price_side m X (Loop b) = neg_ℤ (loop_sum m X Value (basket_at m b).ring)
 price_side m X (Buy i) = (buy_at m i).price
 price_side m X Zero = pos 0
 
+-- What is measured of a row: its coefficient on a line, or its right side.
+abbrev pub price_measure : Market → (ℕ → ℤ) → PriceRow → Measure → ℤ
+price_measure m X r (On l) = price_numbers m X r l
+price_measure m X r Value = price_side m X r
+
 abbrev pub pricing : Market → (ℕ → ℤ) → Table
 pricing m X =
     record {

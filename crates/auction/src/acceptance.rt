@@ -7,7 +7,7 @@ ghost use Rattle.auction.specs.AcceptanceLaw.{acceptance_lawful};
 ghost use Rattle.auction.specs.Views.{accepted_market};
 
 use bound::Programme;
-use market::ClosedMarket;
+use market::{ClosedMarket, Order};
 
 mod columns;
 mod places;
@@ -29,7 +29,7 @@ impl<'a> AcceptanceProgramme<'a> {
 impl<'a> Programme for AcceptanceProgramme<'a> {
     const SCALE: i64 = 10_000;
 
-    const VARIABLES: usize = 256;
+    const VARIABLES: usize = market::VARIABLES;
 
     ghost table = { λ p. acceptance (accepted_market p) };
 
@@ -44,36 +44,32 @@ impl<'a> Programme for AcceptanceProgramme<'a> {
     }
 
     fn rows(&self) -> usize {
-        736
+        places::ROWS
     }
 
     fn limits(&self, v: usize) -> (i64, i64) {
-        (0, places::high_at(self.market, v))
+        (0, self.high_at(v))
     }
 
     fn whole(&self, v: usize) -> bool {
-        v >= 64 && v - 64 < self.market.basket_count()
+        matches!(Order::of(v), Some(order @ Order::Parent(_)) if self.market.has(order))
     }
 
     fn objective(&self, v: usize) -> i64 {
-        places::value_at(self.market, v)
+        self.value_at(v)
     }
 
     fn coefficient(&self, row: usize, v: usize) -> i64 {
-        let row = places::row_at(self.market, row);
-        if v < 64 {
-            return columns::of_buy(self.market, row, v);
+        let row = self.row_at(row);
+        match Order::of(v) {
+            Some(Order::Buy(i)) => self.of_buy(row, i),
+            Some(Order::Parent(b)) => self.of_basket(row, b),
+            Some(Order::Extra(k)) => self.of_extra(row, k),
+            None => 0,
         }
-        if v < 160 {
-            return columns::of_basket(self.market, row, v - 64);
-        }
-        if v < 256 {
-            return columns::of_extra(self.market, row, v - 160);
-        }
-        0
     }
 
     fn right_side(&self, row: usize) -> i64 {
-        places::side_of(places::row_at(self.market, row))
+        self.row_at(row).side()
     }
 }

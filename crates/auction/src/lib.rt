@@ -5,10 +5,10 @@
 
 mod acceptance;
 mod bounds;
-mod forms;
 mod orders;
 mod pricing;
 mod rows;
+mod sales;
 mod theorems;
 
 pub use acceptance::AcceptanceProgramme;

@@ -1,5 +1,6 @@
 // The price programme of a closed market and the parts of a held clearing.
-ghost use Rattle.std.specs.Prelude.{ℕ, ◌<◌, pos, ◌≤ℤ◌};
+ghost use Rattle.std.specs.Prelude.{ℕ, ◌<◌};
+ghost use Rattle.rules.specs.Clearings.{Parts};
 ghost use Rattle.rules.specs.Scratch.{parts_in};
 
 use market::ClosedMarket;
@@ -15,6 +16,5 @@ mod table;
 pub struct PriceProgramme<'a> {
     pub(crate) market: &'a ClosedMarket,
     pub(crate) parts: &'a [i32],
-    ghost fromzero: { (v : ℕ) → v < 256 → pos 0 ≤ℤ parts_in parts.now v },
-    ghost tofull: { (v : ℕ) → v < 256 → parts_in parts.now v ≤ℤ pos 10000 },
+    ghost held: { (v : ℕ) → v < 256 → Parts 10000 (parts_in parts.now v) },
 }

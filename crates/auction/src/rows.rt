@@ -1,4 +1,5 @@
-// What the rows of the two programmes are about. The tables in specs/ and the code speak of the same rows.
+// What the rows of the two programmes are about. The tables in specs/ and the code speak of the same rows, so a row that asks
+// nothing is one of them, `Zero`, with coefficients and a right side of its own, and not an absent row.
 
 // A row of the acceptance programme.
 #[derive(Clone, Copy)]
@@ -36,7 +37,8 @@ pub(crate) enum PriceRow {
     Zero,
 }
 
-// What is measured of a sell order.
+// What is measured of a sell order. The tables in specs/ name it too: a row's coefficients and its right side are one sum of
+// one measure or the other.
 #[derive(Clone, Copy)]
 pub(crate) enum Measure {
     // the quantity that it offers on a line

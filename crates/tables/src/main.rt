@@ -8,13 +8,13 @@ ghost use Rattle.rules.specs.Scratch.{parts_in};
 
 use auction::{AcceptanceProgramme, PriceProgramme};
 use bound::Programme;
-use market::Book;
+use market::{Book, VARIABLES};
 use std::fs;
 
 fn show_variable<P: Programme>(rt: &HostRuntime, p: &P, v: usize) -> anyhow::Result<()> {
     let (low, high) = p.limits(v);
     let number = p.objective(v);
-    if low == 0 && high == 0 && number == 0 {
+    if (low, high, number) == (0, 0, 0) {
         return Ok(());
     }
     let mark = if p.whole(v) { ", whole" } else { "" };
@@ -22,32 +22,23 @@ fn show_variable<P: Programme>(rt: &HostRuntime, p: &P, v: usize) -> anyhow::Res
     Ok(())
 }
 
-// Whether the row has a coefficient that is not 0.
-fn stands<P: Programme>(p: &P, row: usize) -> bool {
-    for v in 0..p.variable_count() {
-        if p.coefficient(row, v) != 0 {
-            return true;
-        }
-    }
-    false
-}
-
 fn show_row<P: Programme>(rt: &HostRuntime, p: &P, row: usize) -> anyhow::Result<()> {
-    if !stands(p, row) {
+    let terms: Vec<(usize, i64)> = (0..p.variable_count())
+        .map(|v| (v, p.coefficient(row, v)))
+        .filter(|(_, number)| *number != 0)
+        .collect(rt.alloc())?;
+    if terms.is_empty() {
         return Ok(());
     }
     print!(rt; "  row {row}:")?;
-    for v in 0..p.variable_count() {
-        let number = p.coefficient(row, v);
-        if number != 0 {
-            print!(rt; " {number} at {v},")?;
-        }
+    for (v, number) in &terms {
+        print!(rt; " {number} at {v},")?;
     }
-    let side = p.right_side(row);
-    println!(rt; " at most {side}")?;
+    println!(rt; " at most {}", p.right_side(row))?;
     Ok(())
 }
 
+// A programme is known only by questions, so its variables and rows are asked for by number.
 fn show<P: Programme>(rt: &HostRuntime, p: &P) -> anyhow::Result<()> {
     for v in 0..p.variable_count() {
         show_variable(rt, p, v)?;
@@ -58,25 +49,24 @@ fn show<P: Programme>(rt: &HostRuntime, p: &P) -> anyhow::Result<()> {
     Ok(())
 }
 
-// The parts of orders that are all accepted in full.
-fn in_full() -> [i32; 256]
+// The parts of an order that is accepted in full.
+const FULL: i32 = 10_000;
+
+// Those of orders that all are.
+fn in_full() -> [i32; VARIABLES]
     ensures { (v : ℕ) → v < 256 → Parts 10000 (parts_in result v) }
 {
-    [10_000; 256]
-}
-
-fn run(rt: &HostRuntime) -> anyhow::Result<()> {
-    let mut book = Book::open(rt.alloc())?;
-    let file = fs::read(rt, "market.bin")?;
-    let _ = book.enter(file.as_slice());
-    let market = book.close();
-    println!(rt; "acceptance")?;
-    show(rt, &AcceptanceProgramme::over(&market))?;
-    println!(rt; "prices")?;
-    let parts = in_full();
-    show(rt, &PriceProgramme::over(&market, &parts))
+    [FULL; VARIABLES]
 }
 
 fn main(rt: HostRuntime) -> anyhow::Result<()> {
-    run(&rt)
+    let mut book = Book::open(rt.alloc())?;
+    let file = fs::read(&rt, "market.bin")?;
+    let _ = book.enter(file.as_slice());
+    let market = book.close();
+    println!(rt; "acceptance")?;
+    show(&rt, &AcceptanceProgramme::over(&market))?;
+    println!(rt; "prices")?;
+    let parts = in_full();
+    show(&rt, &PriceProgramme::over(&market, &parts))
 }

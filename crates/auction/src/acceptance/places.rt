@@ -1,119 +1,118 @@
 // Which variable and which row of the acceptance programme is about what.
-ghost use Rattle.std.specs.Prelude.{◌≡◌};
-ghost use Rattle.market.specs.View.{closed_of};
-ghost use Rattle.auction.specs.Acceptance.{spread, entered, values, child_row, substitutes_row, loop_row, unit_row, row_at, side_of};
+ghost use Rattle.std.specs.Prelude.{◌≡◌, ◌/◌, ◌%◌, cond, length, nat_lt};
+ghost use Rattle.auction.specs.declared.rows.Row.TheVariants.{Zero};
+ghost use Rattle.auction.specs.Acceptance.{spread, entered, values, child_row, loop_row, row_at, side_of};
+ghost use Rattle.auction.specs.Orders.{buy_value};
+ghost use Rattle.auction.specs.Views.{accepted_market};
 
-use crate::forms::{minus, one_if};
-use crate::orders;
-use crate::rows::Row;
-use market::{ClosedMarket, Role};
+use super::AcceptanceProgramme;
+use crate::rows::{Measure, Row};
+use crate::sales::Sale;
+use market::{LINES, Order, Role};
 
-// 1 for a variable of an order that is entered, else 0.
-pub(crate) fn high_at(market: &ClosedMarket, v: usize) -> i64
-    ensures { result ≡ spread (entered (closed_of market.now)) v }
-{
-    if v < 64 {
-        return one_if(v < market.buy_count());
-    }
-    if v < 160 {
-        return one_if(v - 64 < market.basket_count());
-    }
-    if v < 256 {
-        return one_if(v - 160 < market.extra_count());
-    }
-    0
-}
+// Where each block of rows begins, after a row for each line: one row for each child or substitute, one for each basket
+// with its substitutes, one for each family, two for each basket with a loop, and one for each basket in its unit.
+const CHILD_ROWS: usize = LINES;
 
-// What an order is worth for each of its parts, negated for a sell order.
-pub(crate) fn value_at(market: &ClosedMarket, v: usize) -> i64
-    ensures { result ≡ spread (values (closed_of market.now)) v }
-{
-    if v < 64 {
-        return orders::buy_value(market, v);
-    }
-    if v < 160 {
-        return minus(orders::basket_value(market, v - 64));
-    }
-    if v < 256 {
-        return minus(orders::extra_value(market, v - 160));
-    }
-    0
-}
+const SUBSTITUTES_ROWS: usize = 288;
 
-fn child_row(market: &ClosedMarket, k: usize) -> Row
-    ensures { result ≡ child_row (closed_of market.now) k }
-{
-    if k < market.extra_count() {
-        return match market.extra(k).role {
-            Role::Child => Row::Child(k),
-            Role::Substitute => Row::Zero,
-        };
-    }
-    Row::Zero
-}
+const FAMILY_ROWS: usize = 384;
 
-fn substitutes_row(market: &ClosedMarket, b: usize) -> Row
-    ensures { result ≡ substitutes_row (closed_of market.now) b }
-{
-    if b < market.basket_count() {
-        return Row::Substitutes(b);
-    }
-    Row::Zero
-}
+const LOOP_ROWS: usize = 448;
 
-fn loop_row(market: &ClosedMarket, b: usize, second: usize) -> Row
-    ensures { result ≡ loop_row (closed_of market.now) b second }
-{
-    if b < market.basket_count() && market.basket(b).ring != 0 {
-        if second == 0 {
-            return Row::AtMostFirst(b);
+const UNIT_ROWS: usize = 640;
+
+// How many there are.
+pub(crate) const ROWS: usize = 736;
+
+impl<'a> AcceptanceProgramme<'a> {
+    // 1 for a variable of an order that is entered, else 0.
+    pub(crate) fn high_at(&self, v: usize) -> i64
+        ensures { result ≡ spread (entered (accepted_market self.now)) v }
+    {
+        i64::from(Order::of(v).is_some_and(|order| self.market.has(order)))
+    }
+
+    fn buy_value(&self, i: usize) -> i64
+        ensures { result ≡ buy_value (accepted_market self.now) i }
+    {
+        let buy = self.market.buy(i);
+        i64::from(buy.price) * i64::from(buy.quantity)
+    }
+
+    // What an order is worth for each of its parts, negated for a sell order.
+    pub(crate) fn value_at(&self, v: usize) -> i64
+        ensures { result ≡ spread (values (accepted_market self.now)) v }
+    {
+        match Order::of(v) {
+            Some(Order::Buy(i)) => self.buy_value(i),
+            Some(Order::Parent(b)) => -Sale::of_parent(self.market, b).measured(Measure::Value),
+            Some(Order::Extra(k)) => -Sale::of_extra(self.market, k).measured(Measure::Value),
+            None => 0,
         }
-        return Row::AtLeastFirst(b);
     }
-    Row::Zero
+
+    fn child_row(&self, k: usize) -> Row
+        ensures { result ≡ child_row (accepted_market self.now) k }
+    {
+        if k < self.market.extra_count() && self.market.extra(k).role == Role::Child {
+            Row::Child(k)
+        } else {
+            Row::Zero
+        }
+    }
+
+    // The row of a basket, where it is entered.
+    fn of_entered(&self, b: usize, row: Row) -> Row
+        ensures { result ≡ cond (nat_lt b (length (accepted_market self.now).baskets)) row Zero }
+    {
+        if b < self.market.basket_count() {
+            row
+        } else {
+            Row::Zero
+        }
+    }
+
+    // Two rows for each basket, one after the other.
+    fn loop_row(&self, n: usize) -> Row
+        ensures { result ≡ loop_row (accepted_market self.now) (n / 2) (n % 2) }
+    {
+        let b = n / 2;
+        if b >= self.market.basket_count() || self.market.basket(b).ring == 0 {
+            Row::Zero
+        } else if n % 2 == 0 {
+            Row::AtMostFirst(b)
+        } else {
+            Row::AtLeastFirst(b)
+        }
+    }
+
+    // What the row with a number is about.
+    pub(crate) fn row_at(&self, r: usize) -> Row
+        ensures { result ≡ row_at (accepted_market self.now) r }
+    {
+        match r {
+            0..CHILD_ROWS => Row::Line(r),
+            CHILD_ROWS..SUBSTITUTES_ROWS => self.child_row(r - CHILD_ROWS),
+            SUBSTITUTES_ROWS..FAMILY_ROWS => {
+                let b = r - SUBSTITUTES_ROWS;
+                self.of_entered(b, Row::Substitutes(b))
+            }
+            // families are numbered from 1
+            FAMILY_ROWS..LOOP_ROWS => Row::Family(1 + r - FAMILY_ROWS),
+            LOOP_ROWS..UNIT_ROWS => self.loop_row(r - LOOP_ROWS),
+            _ => {
+                let b = r - UNIT_ROWS;
+                self.of_entered(b, Row::Unit(b))
+            }
+        }
+    }
 }
 
-fn unit_row(market: &ClosedMarket, b: usize) -> Row
-    ensures { result ≡ unit_row (closed_of market.now) b }
-{
-    if b >= market.basket_count() {
-        return Row::Zero;
-    }
-    Row::Unit(b)
-}
-
-// What the row with a number is about.
-pub(crate) fn row_at(market: &ClosedMarket, r: usize) -> Row
-    ensures { result ≡ row_at (closed_of market.now) r }
-{
-    if r < 192 {
-        return Row::Line(r);
-    }
-    if r < 288 {
-        return child_row(market, r - 192);
-    }
-    if r < 384 {
-        return substitutes_row(market, r - 288);
-    }
-    if r < 448 {
-        return Row::Family(r - 383);
-    }
-    if r < 640 {
-        return loop_row(market, (r - 448) / 2, (r - 448) % 2);
-    }
-    unit_row(market, r - 640)
-}
-
-pub(crate) fn side_of(row: Row) -> i64
-    ensures { result ≡ side_of row }
-{
-    match row {
-        Row::Family(_) | Row::Unit(_) => 1,
-        Row::Line(_)
-        | Row::Child(_)
-        | Row::Substitutes(_)
-        | Row::AtMostFirst(_)
-        | Row::AtLeastFirst(_)
-        | Row::Zero => 0,
+impl Row {
+    pub(crate) fn side(self) -> i64
+        ensures { result ≡ side_of self }
+    {
+        i64::from(matches!(self, Row::Family(_) | Row::Unit(_)))
     }
 }

@@ -7,8 +7,20 @@ ghost use Rattle.auction.specs.Pricing.{priced, extra_row, basket_row, buy_row, 
 ghost use Rattle.auction.specs.Views.{priced_market, held_parts};
 
 use super::PriceProgramme;
-use crate::orders;
+use crate::orders::first_of;
 use crate::rows::PriceRow;
+use market::{FIRST_EXTRA, PRODUCTS};
+
+// The greatest price.
+const HIGHEST: i64 = 99_999;
+
+// Where the rows of the baskets begin, after one for each child or substitute, and those of the buys.
+const BASKET_ROWS: usize = 96;
+
+const BUY_ROWS: usize = 192;
+
+// How many there are.
+pub(crate) const ROWS: usize = 256;
 
 impl<'a> PriceProgramme<'a> {
     // The parts of a variable.
@@ -17,57 +29,57 @@ impl<'a> PriceProgramme<'a> {
         ensures is { result ≡ held_parts self.now v }
         ensures small { Within 10000 result }
     {
-        if v < self.parts.len() {
-            return self.parts[v] as i64;
-        }
-        0
+        self.parts.get(v).map_or(0, |part| i64::from(*part))
     }
 
-    // The least and the greatest price of a line, both 0 where it has no window or product.
+    // The least and the greatest price of a line, both 0 where it has no window or product. The tests are those of `priced`, in
+    // one expression: a market that lent a line's service as an `Option` would part them.
     pub(crate) fn limits_of(&self, line: usize) -> (i64, i64)
         ensures low { result.0 ≡ (if priced (priced_market self.now) line then (terms (window_at (priced_market self.now) (line / 6)).service).floor else pos 0) }
         ensures high { result.1 ≡ (if priced (priced_market self.now) line then pos 99999 else pos 0) }
     {
-        let w = line / 6;
+        let w = line / PRODUCTS;
         let service = self.market.window(w).service;
-        if w < self.market.window_count() && line % 6 < service.products() {
-            return (service.floor() as i64, 99_999);
+        if w < self.market.window_count() && line % PRODUCTS < service.products() {
+            (i64::from(service.floor()), HIGHEST)
+        } else {
+            (0, 0)
         }
-        (0, 0)
     }
 
     fn extra_row(&self, k: usize) -> PriceRow
         requires { k < 96 }
         ensures { result ≡ extra_row (priced_market self.now) (held_parts self.now) k }
     {
-        if k < self.market.extra_count() && self.part(160 + k) > 0 {
-            return PriceRow::Extra(k);
+        if k < self.market.extra_count() && self.part(FIRST_EXTRA + k) > 0 {
+            PriceRow::Extra(k)
+        } else {
+            PriceRow::Zero
         }
-        PriceRow::Zero
     }
 
     fn basket_row(&self, b: usize) -> PriceRow
         ensures { result ≡ basket_row (priced_market self.now) b }
     {
         if b >= self.market.basket_count() {
-            return PriceRow::Zero;
+            PriceRow::Zero
+        } else if self.market.basket(b).ring == 0 {
+            PriceRow::Basket(b)
+        } else if first_of(self.market, b) == b {
+            PriceRow::Loop(b)
+        } else {
+            PriceRow::Zero
         }
-        if self.market.basket(b).ring == 0 {
-            return PriceRow::Basket(b);
-        }
-        if orders::first_of(self.market, b) == b {
-            return PriceRow::Loop(b);
-        }
-        PriceRow::Zero
     }
 
     fn buy_row(&self, i: usize) -> PriceRow
         ensures { result ≡ buy_row (priced_market self.now) (held_parts self.now) i }
     {
         if i < self.market.buy_count() && !self.market.buy(i).permit && self.part(i) > 0 {
-            return PriceRow::Buy(i);
+            PriceRow::Buy(i)
+        } else {
+            PriceRow::Zero
         }
-        PriceRow::Zero
     }
 
     // What the row with a number is about.
@@ -75,12 +87,10 @@ impl<'a> PriceProgramme<'a> {
         ensures is { result ≡ price_row (priced_market self.now) (held_parts self.now) r }
         ensures numbered { Numbered result }
     {
-        if r < 96 {
-            return self.extra_row(r);
+        match r {
+            0..BASKET_ROWS => self.extra_row(r),
+            BASKET_ROWS..BUY_ROWS => self.basket_row(r - BASKET_ROWS),
+            _ => self.buy_row(r - BUY_ROWS),
         }
-        if r < 192 {
-            return self.basket_row(r - 96);
-        }
-        self.buy_row(r - 192)
     }
 }

@@ -1,30 +1,26 @@
 // What is measured of sell orders, times their parts: of one order, of a basket's orders, of a loop's baskets, of all.
-ghost use Rattle.std.specs.Prelude.{◌≡◌, ◌<◌, length};
-ghost use Rattle.numbers.specs.Sums.{sum_to, Within, Term};
-ghost use Rattle.auction.specs.Pricing.{parent_measure, extra_measure, parent_sum, extra_sum, of_basket, basket_sum, of_loop, loop_sum, market_sum};
+ghost use Rattle.std.specs.Prelude.{◌≡◌, ◌<◌, ◌*ℤ◌};
+ghost use Rattle.numbers.specs.Sums.{Within, Term};
+ghost use Rattle.auction.specs.Orders.{offered};
+ghost use Rattle.auction.specs.Pricing.{parent_sum, extra_sum, of_basket, basket_sum, of_loop, loop_sum, market_sum};
 ghost use Rattle.auction.specs.Views.{priced_market, held_parts};
 
 use super::PriceProgramme;
-use crate::orders;
 use crate::rows::Measure;
+use crate::sales::Sale;
+use market::{FIRST_EXTRA, FIRST_PARENT};
+use numbers::sum_of;
 
+// Each is a definition of specs/Pricing, which takes what is measured and a number.
 impl<'a> PriceProgramme<'a> {
-    fn parent_measure(&self, measure: Measure, b: usize) -> i64
-        ensures { result ≡ parent_measure (priced_market self.now) measure b }
+    // Of a sell order, whose parts are those of a variable. The sums ask for numbers of baskets, children and substitutes below
+    // 96: those alone have their parts among the first 256 numbers, and an `Order` in the place of the variable would ask the same.
+    fn weighed(&self, measure: Measure, sale: Sale, v: usize) -> i64
+        requires { v < 256 }
+        ensures is { result ≡ offered sale.window sale.quantities sale.price measure *ℤ held_parts self.now v }
+        ensures small { Within 9998900010000 result }
     {
-        match measure {
-            Measure::On(line) => orders::basket_on(self.market, line, b) as i64,
-            Measure::Value => orders::basket_value(self.market, b),
-        }
-    }
-
-    fn extra_measure(&self, measure: Measure, k: usize) -> i64
-        ensures { result ≡ extra_measure (priced_market self.now) measure k }
-    {
-        match measure {
-            Measure::On(line) => orders::extra_on(self.market, line, k) as i64,
-            Measure::Value => orders::extra_value(self.market, k),
-        }
+        sale.measured(measure) * self.part(v)
     }
 
     // Of the parent of a basket.
@@ -32,7 +28,7 @@ impl<'a> PriceProgramme<'a> {
         requires { b < 96 }
         ensures { Term (parent_sum (priced_market self.now) (held_parts self.now) measure) 9998900010000 b result }
     {
-        self.parent_measure(measure, b) * self.part(64 + b)
+        self.weighed(measure, Sale::of_parent(self.market, b), FIRST_PARENT + b)
     }
 
     // Of a child or substitute.
@@ -40,7 +36,7 @@ impl<'a> PriceProgramme<'a> {
         requires { k < 96 }
         ensures { Term (extra_sum (priced_market self.now) (held_parts self.now) measure) 9998900010000 k result }
     {
-        self.extra_measure(measure, k) * self.part(160 + k)
+        self.weighed(measure, Sale::of_extra(self.market, k), FIRST_EXTRA + k)
     }
 
     // Of a child or substitute, 0 for one of another basket.
@@ -48,10 +44,11 @@ impl<'a> PriceProgramme<'a> {
         requires { k < 96 }
         ensures { Term (of_basket (priced_market self.now) (held_parts self.now) measure b) 9998900010000 k result }
     {
-        if self.market.extra(k).basket as usize == b {
-            return self.extra_sum(measure, k);
+        if usize::from(self.market.extra(k).basket) == b {
+            self.extra_sum(measure, k)
+        } else {
+            0
         }
-        0
     }
 
     // Of all orders of a basket.
@@ -59,11 +56,8 @@ impl<'a> PriceProgramme<'a> {
         requires { b < 96 }
         ensures { Term (basket_sum (priced_market self.now) (held_parts self.now) measure) 969893300970000 b result }
     {
-        let mut sum: i64 = 0;
-        for k in 0..self.market.extra_count() {
-            sum += self.of_basket(measure, b, k);
-        }
-        self.parent_sum(measure, b) + sum
+        self.parent_sum(measure, b)
+            + sum_of(self.market.extra_count(), |k| self.of_basket(measure, b, k))
     }
 
     // Of all orders of a basket, 0 for one of another loop.
@@ -72,9 +66,10 @@ impl<'a> PriceProgramme<'a> {
         ensures { Term (of_loop (priced_market self.now) (held_parts self.now) measure ring) 969893300970000 b result }
     {
         if self.market.basket(b).ring == ring {
-            return self.basket_sum(measure, b);
+            self.basket_sum(measure, b)
+        } else {
+            0
         }
-        0
     }
 
     // Of all baskets of a loop.
@@ -82,35 +77,10 @@ impl<'a> PriceProgramme<'a> {
         ensures is { result ≡ loop_sum (priced_market self.now) (held_parts self.now) measure ring }
         ensures small { Within 93109756893120000 result }
     {
-        let mut sum: i64 = 0;
-        for b in 0..self.market.basket_count() {
-            sum += self.of_loop(measure, ring, b);
-        }
-        sum
-    }
-
-    // Of the parents of all baskets.
-    fn parents_sum(&self, measure: Measure) -> i64
-        ensures is { result ≡ sum_to (length (priced_market self.now).baskets) (parent_sum (priced_market self.now) (held_parts self.now) measure) }
-        ensures small { Within 959894400960000 result }
-    {
-        let mut sum: i64 = 0;
-        for b in 0..self.market.basket_count() {
-            sum += self.parent_sum(measure, b);
-        }
-        sum
-    }
-
-    // Of all children and substitutes.
-    fn extras_sum(&self, measure: Measure) -> i64
-        ensures is { result ≡ sum_to (length (priced_market self.now).extras) (extra_sum (priced_market self.now) (held_parts self.now) measure) }
-        ensures small { Within 959894400960000 result }
-    {
-        let mut sum: i64 = 0;
-        for k in 0..self.market.extra_count() {
-            sum += self.extra_sum(measure, k);
-        }
-        sum
+        sum_of(
+            self.market.basket_count(),
+            |b| self.of_loop(measure, ring, b),
+        )
     }
 
     // Of all sell orders.
@@ -118,6 +88,7 @@ impl<'a> PriceProgramme<'a> {
         ensures is { result ≡ market_sum (priced_market self.now) (held_parts self.now) measure }
         ensures small { Within 1919788801920000 result }
     {
-        self.parents_sum(measure) + self.extras_sum(measure)
+        sum_of(self.market.basket_count(), |b| self.parent_sum(measure, b))
+            + sum_of(self.market.extra_count(), |k| self.extra_sum(measure, k))
     }
 }

@@ -8,9 +8,10 @@ ghost use Rattle.auction.specs.Pricing.{pricing};
 ghost use Rattle.auction.specs.PricingLaw.{held_lawful};
 ghost use Rattle.auction.specs.Views.{priced_market, held_in, held_parts};
 
-use super::PriceProgramme;
+use super::{PriceProgramme, places};
+use crate::rows::Measure;
 use bound::Programme;
-use market::ClosedMarket;
+use market::{ClosedMarket, LINES};
 
 impl<'a> PriceProgramme<'a> {
     // Over a market and parts of 0 to 10,000, as a clearing has them.
@@ -26,11 +27,11 @@ impl<'a> PriceProgramme<'a> {
 impl<'a> Programme for PriceProgramme<'a> {
     const SCALE: i64 = 1_000;
 
-    const VARIABLES: usize = 192;
+    const VARIABLES: usize = LINES;
 
     ghost table = { λ p. pricing (priced_market p) (held_parts p) };
 
-    ghost lawful = { λ p. held_lawful (priced_market p) (closed_lawful p.market.now) (held_parts p) p.fromzero p.tofull };
+    ghost lawful = { λ p. held_lawful (priced_market p) (closed_lawful p.market.now) (held_parts p) (λ v h. (p.held v h).0) (λ v h. (p.held v h).1) };
 
     fn scale_value(&self) -> i64 {
         Self::SCALE
@@ -41,7 +42,7 @@ impl<'a> Programme for PriceProgramme<'a> {
     }
 
     fn rows(&self) -> usize {
-        256
+        places::ROWS
     }
 
     fn limits(&self, v: usize) -> (i64, i64) {
@@ -63,13 +64,13 @@ impl<'a> Programme for PriceProgramme<'a> {
 
     fn coefficient(&self, row: usize, v: usize) -> i64 {
         if v < Self::VARIABLES {
-            self.number_in(self.row_at(row), v)
+            self.measured(self.row_at(row), Measure::On(v))
         } else {
             0
         }
     }
 
     fn right_side(&self, row: usize) -> i64 {
-        self.side_of(self.row_at(row))
+        self.measured(self.row_at(row), Measure::Value)
     }
 }
