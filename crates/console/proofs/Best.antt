@@ -8,7 +8,7 @@ use Rattle.console.specs.Best.{OfferAt, Best, Given, Least, Ranks}
 use Rattle.console.specs.Steps.{lower}
 
 pub some_not_none : {x : ℤ} {o : Option ℤ} → o ≡ Some x → o ≡ None → ⊥
-some_not_none p q = let z : ◌≡◌ {A = ℕ} 0 1 = cc in omega arith
+some_not_none p q = cc
 
 pub some_is : {x y : ℤ} → ◌≡◌ {A = Option ℤ} (Some x) (Some y) → x ≡ y
 some_is e = cc
@@ -23,7 +23,7 @@ under_right : (x a b y : ℤ) → cond (lt_z x a) x a ≡ b → x ≡ y → b �
 under_right x a b y e h = grind (arith, ints)
 
 clash : {b : Bool} → b ≡ true → b ≡ false → ⊥
-clash p q = let z : ◌≡◌ {A = ℕ} 0 1 = cc in omega arith
+clash p q = cc
 
 both_le : (x y : ℤ) → x ≤ℤ y → y ≤ℤ x → x ≡ y
 both_le x y h k = omega (arith, ints)

@@ -14,14 +14,14 @@ use Rattle.clearing.specs.Files.{Reads}
 use Rattle.clearing.specs.Verdicts.{Keeps, Judged}
 use Rattle.clearing.proofs.Judging.{reads_limits}
 use Rattle.clearing.proofs.Single.{runs_one}
-use Rattle.auction.specs.Theorems.{BoundsWelfare, BoundsSaving}
+use Rattle.auction.specs.Theorems.{BoundsSaving}
 use Rattle.console.specs.declared.held.Held.{Held}
 use Rattle.console.specs.Clears.{Kept, Clears}
-use Rattle.console.specs.Law.{covers, CoversRivals, CoversPrices, sized}
+use Rattle.console.specs.Law.{covers, CoversPrices, sized}
 use Rattle.console.specs.Standing.{parts_of}
 use Rattle.console.specs.Steps.{lower}
 
-same_held : (g h : Held) → g.numbers ≡ h.numbers → g.welfare ≡ h.welfare → g.cost ≡ h.cost → g ≡ h
+pub same_held : (g h : Held) → g.numbers ≡ h.numbers → g.welfare ≡ h.welfare → g.cost ≡ h.cost → g ≡ h
 same_held g h a b c =
     ap (λ (ns : List ℤ). record { numbers = ns; welfare = g.welfare; cost = g.cost }) a
     ∙ (ap (λ (z : ℤ). record { numbers = h.numbers; welfare = z; cost = g.cost }) b
@@ -35,18 +35,12 @@ clears_one m file room g h a b =
     (a.kept.welfare_is ∙ (ap (λ (xs : List ℤ). welfare m (parts_in xs)) ns ∙ sym b.kept.welfare_is))
     (a.kept.cost_is ∙ (ap (λ (xs : List ℤ). cost m (parts_in xs) (prices_in xs)) ns ∙ sym b.kept.cost_is))
 
-le_true : (a b : ℤ) → a ≤ℤ b → le_z a b ≡ true
+pub le_true : (a b : ℤ) → a ≤ℤ b → le_z a b ≡ true
 le_true a b h = grind (arith, ints)
 
 covers_lower : (o : Option ℤ) (x z : ℤ) (D : ℕ) → covers o D z ≡ true → z ≤ℤ (pos D *ℤ x) → covers (lower o x) D z ≡ true
 covers_lower None x z D c h = le_true _ _ h
 covers_lower (Some b) x z D c h = cond_both (lt_z x b) x b (λ (y : ℤ). le_z z (pos D *ℤ y) ≡ true) (λ t. le_true _ _ h) (λ t. c)
-
--- the bound of an accepted tree, and the lesser of it and another, covers every rival
-pub rivals_lower : (m : Market) (o p : Option ℤ) (x : ℤ) → p ≡ lower o x → CoversRivals m o → BoundsWelfare m x → CoversRivals m p
-rivals_lower m o p x e c b r =
-    subst (λ (q : Option ℤ). covers q r.D (pos 10000 *ℤ welfare m r.parts) ≡ true) (sym e)
-    (covers_lower o x _ r.D (c r) (b r.D r.some r.parts r.clearing r.keeps))
 
 saving_le : (D : ℕ) (c b : ℤ) → (pos 1000 *ℤ (pos D *ℤ pos 0 -ℤ c)) ≤ℤ (pos D *ℤ (b +ℤ pos 1000 *ℤ pos 0)) → neg_ℤ (pos 1000 *ℤ c) ≤ℤ (pos D *ℤ b)
 saving_le D c b h =
@@ -76,7 +70,7 @@ pub record Taken (m : Market) (file : List ℕ) (was then : List ℤ) (w : Worth
   pub keeps : Keeps m (take 448 then) w
 
 ok_not_err : (w : Worth) (e : Refusal) → ◌≡◌ {A = Result Worth Refusal} (Ok w) (Err e) → ⊥
-ok_not_err w e p = let z : ◌≡◌ {A = ℕ} 0 1 = cc in omega arith
+ok_not_err w e p = cc
 
 pub taken_file : (m : Market) (file : List ℕ) (was then : List ℤ) (w : Worth) → Judged m file was (Ok w) then → Taken m file was then w
 taken_file m file was then w o = ⊎_elim
@@ -91,6 +85,3 @@ taken_file m file was then w o = ⊎_elim
 pub read_sized : (m : Market) → Lawful m → (file : List ℕ) (ns os : List ℤ) (u v : ℤ) → Reads m file (Ok tt) ns → os ≡ ns → (i : ℕ) → i < 256 → sized (record { numbers = os; welfare = u; cost = v }) i ≡ true
 read_sized m good file ns os u v r e i h =
     sized_from (record { numbers = os; welfare = u; cost = v }) i (subst (λ (xs : List ℤ). Parts 10000 (parts_in xs i)) (sym e) ((reads_limits m good file (Ok tt) ns r).parts i h))
-
-pub small_true : (z b : ℤ) → z ≤ℤ b → le_z z b ≡ true
-small_true z b h = le_true z b h

@@ -3,7 +3,6 @@ pub mod Coming
 pub mod Gaps
 pub mod Laws
 pub mod Idle
-pub mod Rooms
 pub mod Promise
 pub mod Single
 pub mod Playing

@@ -1,5 +1,5 @@
 -- One more call of a past, and one more market file before it.
-use Rattle.std.proofs.Common.{◌≡◌, ℕ, zero, suc, ◌+◌, ◌<◌, ◌≤◌, min, ◌⊎◌, List, [], ◌∷◌, ◌++◌, length, get_or, take, ℤ, Ok, Err, Result, sym, refl, ap, ◌∙◌, subst, inl, inr, ⊎_elim, arith, Bor}
+use Rattle.std.proofs.Common.{◌≡◌, ℕ, ◌+◌, ◌<◌, ◌≤◌, min, ◌⊎◌, List, [], ◌∷◌, ◌++◌, length, get_or, take, ℤ, Ok, Err, Result, sym, refl, ap, ◌∙◌, subst, inl, inr, ⊎_elim, arith, Bor}
 use Rattle.std.proofs.lemmas.List.{take_more, get_or_push, get_or_append_left}
 use Rattle.std.proofs.lemmas.Bool.{cases_lt}
 use Rattle.market.specs.declared.faults.Refusal as entries
@@ -91,12 +91,6 @@ files_more fs i d given more a k n l e p x is =
     subst (λ (vs : List Visit). AfterFiles empty vs n)
     (sym (visits_push (take i fs) given (get_or fs i d) a e) ∙ (ap (λ (gs : List (Bor (List ℕ))). visits gs (given ++ a ∷ [])) (sym (take_more fs i d l)) ∙ ap (visits (take (i + 1) fs)) (sym is)))
     (after_more empty (visits (take i fs) given) k (record { file = (get_or fs i d).now; answer = a }) n p x)
-
--- the default of a place that is there does not matter
-pub getD_same : {X : Type 0} (xs : List X) (i : ℕ) (d e : X) → i < length xs → get_or xs i d ≡ get_or xs i e
-getD_same [] i d e h = absurd (omega arith)
-getD_same (x ∷ xs) zero d e h = refl
-getD_same (x ∷ xs) (suc i) d e h = getD_same xs i d e (omega arith)
 
 -- all calls are made
 pub played : (m : Market) → Lawful m → (calls : List Call) (out : List Answer) (n : ℕ) → length out ≡ n → n ≡ length calls → SoFar m calls n out → Played m calls out

@@ -1,5 +1,5 @@
 -- The two laws of the gaps, from the past alone.
-use Rattle.std.proofs.Common.{◌≡◌, ℕ, zero, suc, ◌*◌, ◌<◌, Bool, true, List, get_or, ℤ, pos, negsuc, ◌+ℤ◌, ◌-ℤ◌, ◌*ℤ◌, neg_ℤ, ◌≤ℤ◌, is_some, Some, None, Ok, Err, Option, Result, sym, refl, ap, ◌∙◌, subst, arith}
+use Rattle.std.proofs.Common.{◌≡◌, ℕ, zero, suc, ◌*◌, ◌<◌, true, List, get_or, ℤ, pos, negsuc, ◌+ℤ◌, ◌-ℤ◌, ◌*ℤ◌, neg_ℤ, ◌≤ℤ◌, Some, None, Ok, Err, Option, Result, sym, refl, ap, ◌∙◌, subst, arith}
 use lib.Signed.{le_z}
 use Rattle.std.proofs.lemmas.Int.{ints}
 use Rattle.bound.specs.declared.faults.Refusal as bounds
@@ -21,7 +21,7 @@ use Rattle.console.specs.declared.call.Call.TheVariants.{Clearing, Tree, Price, 
 use Rattle.console.specs.declared.held.Held.{Held}
 use Rattle.console.specs.Best.{OfferAt}
 use Rattle.numbers.proofs.Integers.{mul_assoc, mul_add}
-use Rattle.console.specs.Law.{GapCovers, PriceGapCovers, covers, CoversRivals, CoversPrices}
+use Rattle.console.specs.Law.{GapCovers, PriceGapCovers, covers, CoversPrices}
 use Rattle.console.specs.Panel.{up, in_pence, ShownNotBelow}
 use Rattle.console.specs.Past.{Offers, limit, price_limit, no_call, Came}
 use Rattle.console.specs.Standing.{Standing, parts_of, idle, gap, price_gap}
@@ -96,11 +96,6 @@ covered : (o : Option ℤ) (b z : ℤ) (D : ℕ) → o ≡ Some b → covers o D
 covered None b z D e c = absurd (some_not_none e refl)
 covered (Some a) b z D e c = subst (λ (y : ℤ). z ≤ℤ (pos D *ℤ y)) (some_is e) (le_from z (pos D *ℤ a) c)
 
-pub gap_covered : (s : Standing) → CoversRivals s.market s.bound → GapCovers s
-gap_covered s c g e r =
-    let is = gap_is s.bound s.held.welfare g e in
-    subst (λ (z : ℤ). (pos 10000 *ℤ welfare s.market r.parts) ≤ℤ (pos r.D *ℤ z)) is.2 (covered s.bound is.0 _ r.D is.1 (c r))
-
 over_held : (D : ℕ) (b h k : ℤ) → neg_ℤ (pos 1000 *ℤ k) ≤ℤ (pos D *ℤ b) → (pos 1000 *ℤ (pos D *ℤ h -ℤ k)) ≤ℤ (pos D *ℤ (b +ℤ pos 1000 *ℤ h))
 over_held D b h k l =
     let a : pos D *ℤ (b +ℤ pos 1000 *ℤ h) ≡ pos D *ℤ b +ℤ pos D *ℤ (pos 1000 *ℤ h) = mul_add (pos D) b (pos 1000 *ℤ h) in
@@ -139,7 +134,3 @@ shown_not_below s = record {
   gaps = λ g n e p. subst (λ (k : ℕ). g ≤ℤ pos (10000 * k)) (sym (in_pence_lem 9999 (gap s) g n e p)) (up_covers g);
   price_gaps = λ g n e p. subst (λ (k : ℕ). g ≤ℤ pos (10000000 * k)) (sym (in_pence_lem 9999999 (price_gap s) g n e p)) (cost_covers g);
 }
-
-pub gap_there : (o : Option ℤ) (w : ℤ) (r : Bool) → r ≡ is_some o → r ≡ is_some (elim o [ Some b ↦ Some (b -ℤ w) | None ↦ None ])
-gap_there None w r e = e
-gap_there (Some b) w r e = e

@@ -26,7 +26,7 @@ use Rattle.console.specs.Standing.{Standing}
 use Rattle.console.specs.Steps.{after_worth, told_worth}
 
 ok_not_err : (e : Refusal) → ◌≡◌ {A = Result (Unit {0}) Refusal} (Ok tt) (Err e) → ⊥
-ok_not_err e p = let z : ◌≡◌ {A = ℕ} 0 1 = cc in omega arith
+ok_not_err e p = cc
 
 err_is : (e f : Refusal) → ◌≡◌ {A = Result (Unit {0}) Refusal} (Err e) (Err f) → e ≡ f
 err_is e f p = cc

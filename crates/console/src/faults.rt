@@ -2,7 +2,7 @@
 ghost use Rattle.std.specs.Prelude.{◌≡◌};
 ghost use Rattle.console.specs.Faults.{code, from_clearing, from_bound};
 
-#[derive(Clone, Copy)]
+#[derive(Clone, Copy, Debug, PartialEq, Eq)]
 pub enum Fault {
     // a fault of a clearing file, or a rule that it breaks
     Clearing(clearing::Fault),
@@ -12,14 +12,19 @@ pub enum Fault {
     BufferTooShort,
 }
 
-// What is wrong, and where.
-#[derive(Clone, Copy)]
+// What is wrong, and where. Each crate that refuses has such a struct of its own: between two instances of one generic
+// struct of a crate below, no crate above could write the `From` that `?` needs.
+#[derive(Clone, Copy, Debug, PartialEq, Eq)]
 pub struct Refusal {
     pub fault: Fault,
     pub place: usize,
 }
 
+// Lent memory that is too short is refused at this layer, as a clearing's scratch is.
+const LAYER: u8 = 5;
+
 impl Fault {
+    // By cases and not by the variant's own number, since a fault from below has its number and its layer there.
     pub fn number(self) -> u8
         ensures { result ≡ (code self).number }
     {
@@ -36,7 +41,7 @@ impl Fault {
         match self {
             Fault::Clearing(fault) => fault.layer(),
             Fault::Tree(fault) => fault.layer(),
-            Fault::BufferTooShort => 5,
+            Fault::BufferTooShort => LAYER,
         }
     }
 }

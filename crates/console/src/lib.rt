@@ -9,6 +9,8 @@ mod replays;
 mod state;
 
 pub use call::{Answer, Call};
+pub use clearing::NUMBERS;
+pub use display::LINE_ROOM;
 pub use faults::{Fault, Refusal};
 pub use held::Held;
 pub use replays::{Past, replay};

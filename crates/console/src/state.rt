@@ -8,6 +8,7 @@ ghost use Rattle.console.specs.Law.{CoversRivals, CoversPrices, sized};
 use crate::held::Held;
 use market::ClosedMarket;
 
+mod answers;
 mod files;
 mod law;
 mod opens;

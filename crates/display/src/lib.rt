@@ -4,5 +4,5 @@
 mod line;
 mod rounding;
 
-pub use line::write_line;
+pub use line::{LINE_ROOM, write_line};
 pub use rounding::whole_pence;

@@ -7,10 +7,5 @@ pub fn whole_pence(amount: u64, parts: u32) -> u64
     ensures { RoundedUp (max parts 1) amount result }
 {
     let parts = u64::from(parts.max(1));
-    let whole = amount / parts;
-    if amount % parts == 0 {
-        whole
-    } else {
-        whole + 1
-    }
+    amount.div_ceil(parts)
 }

@@ -15,12 +15,8 @@ pub struct Files {
 fn read_file(rt: &HostRuntime, name: &str) -> anyhow::Result<Vec<u8>> {
     match fs::read(rt, name) {
         Ok(bytes) => Ok(bytes),
-        Err(e) => {
-            if e.kind() == ErrorKind::NotFound {
-                return Ok(Vec::new(rt.alloc()));
-            }
-            Err(anyhow!(format!(in rt.alloc(); "{name} cannot be read: {e}")?))
-        }
+        Err(e) if e.kind() == ErrorKind::NotFound => Ok(Vec::new(rt.alloc())),
+        Err(e) => Err(anyhow!("{name} cannot be read: {e}")),
     }
 }
 

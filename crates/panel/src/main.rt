@@ -5,29 +5,20 @@
 mod files;
 mod shows;
 
-use console::{Call, Past, replay};
+use console::{Call, LINE_ROOM, NUMBERS, Past, replay};
 use files::Files;
-use shows::{show_answer, show_entered};
+use shows::{show_answer, show_told};
 use std::alloc::{AllocError, Global};
-
-// As many numbers as a clearing needs, and as many bytes as the panel line does.
-const SCRATCH: usize = 448;
-
-const ROOM: usize = 64;
 
 fn make_past(heap: Global, files: &Files) -> Result<Past, AllocError> {
     let calls = [
         Call::Clearing {
-            file: files.clearing.as_slice(),
-            scratch: SCRATCH,
+            file: &files.clearing,
+            scratch: NUMBERS,
         },
-        Call::Tree {
-            file: files.tree.as_slice(),
-        },
-        Call::Price {
-            file: files.price.as_slice(),
-        },
-        Call::Panel { room: ROOM },
+        Call::Tree { file: &files.tree },
+        Call::Price { file: &files.price },
+        Call::Panel { room: LINE_ROOM },
     ];
     replay(heap, &[files.market.as_slice()], &calls)
 }
@@ -35,10 +26,10 @@ fn make_past(heap: Global, files: &Files) -> Result<Past, AllocError> {
 fn run(rt: &HostRuntime) -> anyhow::Result<()> {
     let files = Files::read(rt)?;
     let past = make_past(rt.alloc(), &files)?;
-    for answer in past.entered.iter() {
-        show_entered(rt, answer)?;
+    for answer in &past.entered {
+        show_told(rt, "market", answer)?;
     }
-    for answer in past.answers.iter() {
+    for answer in &past.answers {
         show_answer(rt, answer)?;
     }
     Ok(())

@@ -1,4 +1,4 @@
-// The files of the pasts, as bytes.
+// The files of the pasts: as the bytes that a market's file has, and not as values that a writer would turn into them.
 
 // 40 MW of DCL wanted at 9,000 in one Response window, and two offers of 20 MW at 3,000 and 7,000.
 pub const MARKET: &[u8] =

@@ -9,7 +9,7 @@ const WANTED: &[u8] =
 pub fn ninety_offers(heap: Global) -> anyhow::Result<Vec<u8>> {
     let mut file = Vec::new(heap);
     file.extend_from_slice(WANTED)?;
-    for unit in 1u32..91 {
+    for unit in 1u32..=90 {
         file.extend_from_slice(b"\x03\x02\x09")?;
         file.extend_from_slice(&unit.to_be_bytes())?;
         file.extend_from_slice(&10u32.to_be_bytes())?;
@@ -22,7 +22,7 @@ pub fn ninety_offers(heap: Global) -> anyhow::Result<Vec<u8>> {
 pub fn ninety_accepted(heap: Global) -> anyhow::Result<Vec<u8>> {
     let mut file = Vec::new(heap);
     file.extend_from_slice(b"\x06\x00\x02\x00\x00\x27\x10")?;
-    for variable in 64u32..154 {
+    for variable in 64u32..=153 {
         file.extend_from_slice(b"\x06\x00\x03")?;
         file.extend_from_slice(&variable.to_be_bytes())?;
         file.extend_from_slice(&10_000u32.to_be_bytes())?;

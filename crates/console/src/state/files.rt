@@ -1,9 +1,9 @@
 // The files that a console judges.
-ghost use Rattle.std.specs.Prelude.{◌≡◌, length, Some};
+ghost use Rattle.std.specs.Prelude.{◌≡◌, Some};
 ghost use Rattle.bound.specs.Checks.{checked};
 ghost use Rattle.auction.specs.Acceptance.{acceptance};
 ghost use Rattle.auction.specs.Pricing.{pricing};
-ghost use Rattle.console.specs.Standing.{better, parts_of};
+ghost use Rattle.console.specs.Standing.{parts_of};
 ghost use Rattle.console.specs.Steps.{accepted, lower, bounded, priced, told_bound, Cleared};
 ghost use Rattle.console.specs.View.{standing};
 
@@ -13,31 +13,11 @@ use crate::state::Console;
 use auction::{saving_bound, welfare_bound};
 use clearing::judge_file;
 
-// Of greater welfare, or of equal welfare at less cost.
-fn is_better(h: &Held, g: &Held) -> bool
-    ensures { result ≡ better h.now g.now }
-{
-    h.welfare > g.welfare || h.welfare == g.welfare && h.cost < g.cost
-}
-
 // The lesser of a bound that may be absent and another.
 fn lesser(bound: Option<i64>, other: i64) -> i64
     ensures { Some result ≡ lower bound other }
 {
-    match bound {
-        Some(bound) => if other < bound { other } else { bound },
-        None => other,
-    }
-}
-
-// A copy of the scratch's numbers.
-fn copied(numbers: &[i32]) -> [i32; 448]
-    requires { length numbers.now ≡ 448 }
-    ensures { result ≡ numbers.now }
-{
-    let mut copy = [0; 448];
-    copy.copy_from_slice(numbers);
-    copy
+    bound.map_or(other, |least| least.min(other))
 }
 
 impl Console {
@@ -47,11 +27,11 @@ impl Console {
     {
         let worth = judge_file(&self.market, file, scratch)?;
         let held = Held {
-            numbers: copied(&scratch[0..448]),
+            numbers: *scratch.first_chunk().unwrap(),
             welfare: worth.welfare,
             cost: worth.cost,
         };
-        if is_better(&held, &self.held) {
+        if held.is_better(&self.held) {
             self.held = held;
             self.price_bound = None;
         }

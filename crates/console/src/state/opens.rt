@@ -4,7 +4,7 @@ ghost use Rattle.market.specs.View.{market_of};
 ghost use Rattle.console.specs.Standing.{opening};
 ghost use Rattle.console.specs.View.{standing};
 
-use crate::held::empty_clearing;
+use crate::held::Held;
 use crate::state::Console;
 use market::Book;
 
@@ -15,7 +15,7 @@ impl Console {
     {
         Console {
             market: book.close(),
-            held: empty_clearing(),
+            held: Held::default(),
             bound: None,
             price_bound: None,
         }

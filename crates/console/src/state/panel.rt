@@ -1,5 +1,5 @@
 // What a console shows.
-ghost use Rattle.std.specs.Prelude.{◌≡◌, length, pos, ◌+ℤ◌, ◌-ℤ◌, ◌*ℤ◌, ◌≤ℤ◌};
+ghost use Rattle.std.specs.Prelude.{◌≡◌, length};
 ghost use Rattle.console.specs.Panel.{gap_pence, cost_pence, panel_answer, panel_buffer};
 ghost use Rattle.console.specs.View.{standing};
 
@@ -12,41 +12,24 @@ const GRAINS: u32 = 10_000;
 
 const PRICE_PARTS: u32 = 10_000_000;
 
-// bound - welfare, which is not below 0
-fn difference(bound: i64, welfare: i64) -> u64
-    requires { welfare ≤ℤ bound }
-    ensures { pos result ≡ bound -ℤ welfare }
-{
-    (i128::from(bound) - i128::from(welfare)) as u64
-}
-
-// bound + 1,000 × cost, which is not below 0
-fn saving(bound: i64, cost: i64) -> u64
-    requires { (pos 0 ≤ℤ (bound +ℤ pos 1000 *ℤ cost)) × (cost ≤ℤ pos 5000000000000000) }
-    ensures { pos result ≡ bound +ℤ pos 1000 *ℤ cost }
-{
-    (i128::from(bound) + 1_000 * i128::from(cost)) as u64
-}
+// A cost is in grains, and a price bound in thousandths of a grain.
+const THOUSANDTHS: i64 = 1_000;
 
 impl Console {
     // The gap in whole pence, rounded up; absent until a tree has been accepted.
     fn gap_pence(&self) -> Option<u64>
         ensures { result ≡ gap_pence (standing self.now) }
     {
-        let Some(bound) = self.bound else {
-            return None;
-        };
-        Some(whole_pence(difference(bound, self.held.welfare), GRAINS))
+        let gap = self.bound?.abs_diff(self.held.welfare);
+        Some(whole_pence(gap, GRAINS))
     }
 
     // The price gap in whole pence, rounded up; absent without a price bound.
     fn cost_pence(&self) -> Option<u64>
         ensures { result ≡ cost_pence (standing self.now) }
     {
-        let Some(bound) = self.price_bound else {
-            return None;
-        };
-        Some(whole_pence(saving(bound, self.held.cost), PRICE_PARTS))
+        let gap = self.price_bound?.abs_diff(-THOUSANDTHS * self.held.cost);
+        Some(whole_pence(gap, PRICE_PARTS))
     }
 
     // Writes the panel line at the start of the buffer, and says how long it is.
@@ -54,12 +37,9 @@ impl Console {
         ensures answer { result ≡ panel_answer (standing self.now) (length buffer.old) }
         ensures after { buffer.new ≡ panel_buffer (standing self.now) buffer.old }
     {
-        match write_line(buffer, self.gap_pence(), self.cost_pence()) {
-            Some(length) => Ok(length),
-            None => Err(Refusal {
-                fault: Fault::BufferTooShort,
-                place: 0,
-            }),
-        }
+        write_line(buffer, self.gap_pence(), self.cost_pence()).ok_or(Refusal {
+            fault: Fault::BufferTooShort,
+            place: 0,
+        })
     }
 }

@@ -11,10 +11,19 @@ use Rattle.console.proofs.replays.replay.Given as goal
 
 -- the files so far
 abbrev pub invariant-loop-f : goal.invariant-loop-f
-invariant-loop-f l = (vec_len l.entered ≡ l.f-index) × AfterFiles empty (visits (take l.f-index l.files) (vec_items l.entered)) (market_of l.book)
+invariant-loop-f l = record {
+  count : vec_len l.entered ≡ l.f-index;
+  made : AfterFiles empty (visits (take l.f-index l.files) (vec_items l.entered)) (market_of l.book);
+}
 
 -- the calls so far
 abbrev pub invariant-loop-c : goal.invariant-loop-c
-invariant-loop-c l =
-    (m : Market) × Lawful m × AfterFiles empty (visits l.files (vec_items l.entered)) m × (vec_len l.entered ≡ length l.files)
-    × Came m (take l.c-index l.calls) (standing l.console) × (vec_len l.answers ≡ l.c-index) × SoFar m l.calls l.c-index (vec_items l.answers)
+invariant-loop-c l = record {
+  market : Market;
+  lawful : Lawful market;
+  made : AfterFiles empty (visits l.files (vec_items l.entered)) market;
+  files : vec_len l.entered ≡ length l.files;
+  came : Came market (take l.c-index l.calls) (standing l.console);
+  count : vec_len l.answers ≡ l.c-index;
+  so_far : SoFar market l.calls l.c-index (vec_items l.answers);
+}
