@@ -1,6 +1,6 @@
 // A programme below, with its limits and whole marks kept at hand.
-ghost use Rattle.std.specs.Prelude.{◌≡◌};
-ghost use Rattle.bound.specs.Sheets.{line_of, Copied, sheeted};
+ghost use Rattle.std.specs.Prelude.{◌≡◌, cond, nat_lt};
+ghost use Rattle.bound.specs.Sheets.{line, line_of, no_line, Copied, Ordered, SmallLow, SmallHigh, sheeted, sheeted_lawful};
 
 use crate::programme::Programme;
 use std::array;
@@ -22,24 +22,27 @@ fn line_of<P: Programme>(programme: &P, v: usize) -> Line
     Line { low, high, whole }
 }
 
-// Its type says that its lines are those of what is below, beyond the variables too.
+// It asks nothing of what is below, so that it may be named where no programme is at hand: its type says of the lines alone that
+// they keep to the limits. That they are those below is what `of` promises.
 #[derive(Drop)]
-pub struct LimitSheet<'a, P: Programme> {
+pub struct LimitSheet<'a, P> {
     below: &'a P,
     lines: [Line; 256],
-    ghost copied: { Copied (P.Programme.table below.now) lines },
+    ghost ordered: { Ordered lines },
+    ghost smalllow: { SmallLow lines },
+    ghost smallhigh: { SmallHigh lines },
 }
 
-// It means the same as what is below; the limits and the marks are answered from the lines, and all else is asked below,
-// question by question: a body in the trait could not know what is below.
+// The limits and the marks are answered from the lines, and all else is asked below, question by question: a body in the
+// trait could not know what is below.
 impl<'a, P: Programme> Programme for LimitSheet<'a, P> {
     const SCALE: i64 = P::SCALE;
 
     const VARIABLES: usize = P::VARIABLES;
 
-    ghost table = { λ s. P.Programme.table s.below.now };
+    ghost table = { λ s. sheeted (P.Programme.table s.below.now) s.lines };
 
-    ghost lawful = { λ s. P.Programme.lawful s.below.now };
+    ghost lawful = { λ s. sheeted_lawful (P.Programme.table s.below.now) s.lines (P.Programme.lawful s.below.now) s.ordered s.smalllow s.smallhigh };
 
     fn scale_value(&self) -> i64 {
         self.below.scale_value()
@@ -80,6 +83,7 @@ impl<'a, P: Programme> LimitSheet<'a, P> {
     // lines in place of those below.
     pub fn of(below: &'a P) -> LimitSheet<'a, P>
         ensures below { result.below.now ≡ below.now }
+        ensures lines { Copied (P.Programme.table below.now) result.lines }
         ensures table { ⟦<LimitSheet<'a, P> as Programme>⟧.table result ≡ P.Programme.table below.now }
         ensures same { sheeted (P.Programme.table result.below.now) result.lines ≡ P.Programme.table below.now }
     {
@@ -89,8 +93,12 @@ impl<'a, P: Programme> LimitSheet<'a, P> {
 
     // The line of a variable, all zeros beyond the last.
     fn line(&self, v: usize) -> Line
-        ensures { result ≡ line_of (P.Programme.table self.now.below.now) v }
+        ensures { result ≡ cond (nat_lt v (P.Programme.table self.now.below.now).variables) (line self.now.lines v) no_line }
     {
-        self.lines.get(v).copied().unwrap_or_default()
+        if v < self.below.variable_count() {
+            self.lines[v]
+        } else {
+            Line::default()
+        }
     }
 }

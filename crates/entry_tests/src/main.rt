@@ -9,7 +9,7 @@ mod parts;
 use market::{Book, ClosedMarket, Refusal};
 use parts::Parts;
 use std::str::from_utf8;
-use std::{fs, iter};
+use std::{fmt, fs, iter};
 
 fn show_answer(rt: &HostRuntime, answer: Result<(), Refusal>) -> anyhow::Result<()> {
     match answer {
@@ -29,9 +29,9 @@ fn show_counts(rt: &HostRuntime, market: &ClosedMarket) -> anyhow::Result<()> {
 }
 
 // Enters the files one after the other into a new book.
-fn run_case<'a, I: Iterator<Item = &'a [u8]> + Drop>(
+fn run_case<'a, N: fmt::Display + Copy, I: Iterator<Item = &'a [u8]> + Drop>(
     rt: &HostRuntime,
-    name: &str,
+    name: N,
     files: I,
 ) -> anyhow::Result<()>
     requires can { I.can_next files }
@@ -48,11 +48,22 @@ fn run_case<'a, I: Iterator<Item = &'a [u8]> + Drop>(
     show_counts(rt, &book.close())
 }
 
-// A file of zeros, which is no market file, of this length.
+// The name of a file of zeros of this length. It is printed as it is, so that it takes no memory.
+#[derive(Clone, Copy, Debug, PartialEq, Eq)]
+struct Zeros {
+    length: usize,
+}
+
+impl fmt::Display for Zeros {
+    fn fmt<W: fmt::Write>(&self, f: &mut fmt::Formatter<W>) -> fmt::Result {
+        write!(f, "{} bytes of 0", self.length)
+    }
+}
+
+// Enters a file of zeros, which is no market file, of this length.
 fn run_zeros(rt: &HostRuntime, length: usize) -> anyhow::Result<()> {
-    let name = format!(in rt.alloc(); "{length} bytes of 0")?;
     let file = vec![in rt.alloc(); 0u8; length]?;
-    run_case(rt, name.as_str(), iter::once(file.as_slice()))
+    run_case(rt, Zeros { length }, iter::once(file.as_slice()))
 }
 
 fn run(rt: &HostRuntime) -> anyhow::Result<()> {

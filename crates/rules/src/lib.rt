@@ -18,4 +18,5 @@ mod verdict;
 
 pub use faults::{Breach, Rule};
 pub use filled::Clearing;
-pub use verdict::unbroken_is_kept;
+pub use values::{cost, welfare};
+pub use verdict::{judge, unbroken_is_kept};

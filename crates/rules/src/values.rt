@@ -1,17 +1,37 @@
 // Welfare and cost, in ten-thousandths of a penny an hour.
 ghost use Rattle.std.specs.Prelude.{◌≡◌, ◌<◌, length};
 ghost use Rattle.numbers.specs.Sums.{Summed, Term, Within};
+ghost use Rattle.market.specs.View.{closed_of};
 ghost use Rattle.rules.specs.Clearings.{product_worth, buy_worth};
 ghost use Rattle.rules.specs.Clearings.{welfare as welfare_of};
 ghost use Rattle.rules.specs.Prices.{product_payment};
 ghost use Rattle.rules.specs.Prices.{cost as cost_of};
+ghost use Rattle.rules.specs.Scratch.{Filled, parts_in, prices_in};
 ghost use Rattle.rules.specs.Views.{market_of, parts_of, prices_of};
 
 use crate::amounts::worth;
 use crate::filled::Clearing;
 use crate::sales::Sale;
-use market::{Order, PRODUCTS};
+use market::{ClosedMarket, Order, PRODUCTS};
 use numbers::sum_of;
+
+// What buys are worth, less what sells are worth, in the clearing of a market that the numbers give.
+pub fn welfare(m: &ClosedMarket, s: &[i32]) -> i64
+    requires { Filled s.now }
+    ensures is { result ≡ welfare_of (closed_of m.now) (parts_in s.now) }
+    ensures size { Within 5000000000000000 result }
+{
+    Clearing::over(m, s).welfare()
+}
+
+// What all sell orders are paid in it.
+pub fn cost(m: &ClosedMarket, s: &[i32]) -> i64
+    requires { Filled s.now }
+    ensures is { result ≡ cost_of (closed_of m.now) (parts_in s.now) (prices_in s.now) }
+    ensures size { Within 5000000000000000 result }
+{
+    Clearing::over(m, s).cost()
+}
 
 impl Sale {
     fn product_worth(self, p: usize) -> i64

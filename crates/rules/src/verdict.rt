@@ -1,10 +1,13 @@
 // The verdict on a clearing: the first rule that it breaks, at its lowest place.
 ghost use Rattle.numbers.specs.Searches.{Lowest};
+ghost use Rattle.market.specs.View.{closed_of};
 ghost use Rattle.rules.specs.Broken.{Broken, Verdict, UnbrokenIsKept};
+ghost use Rattle.rules.specs.Scratch.{Filled, parts_in, prices_in};
 ghost use Rattle.rules.specs.Views.{market_of, parts_of, prices_of};
 
 use crate::faults::{Breach, Rule};
 use crate::filled::Clearing;
+use market::ClosedMarket;
 
 // The rules in the order in which they are judged.
 const RULES: [Rule; 10] = [
@@ -19,6 +22,14 @@ const RULES: [Rule; 10] = [
     Rule::BasketSurplus,
     Rule::BuyPrices,
 ];
+
+// The verdict on the clearing of a market that the numbers give.
+pub fn judge(m: &ClosedMarket, s: &[i32]) -> Result<(), Breach>
+    requires { Filled s.now }
+    ensures { Verdict (closed_of m.now) (parts_in s.now) (prices_in s.now) result }
+{
+    Clearing::over(m, s).judge()
+}
 
 // A clearing that breaks no rule keeps them all, and the other way round.
 pub fn unbroken_is_kept()

@@ -22,16 +22,17 @@ fn show_variable<P: Programme>(rt: &HostRuntime, p: &P, v: usize) -> anyhow::Res
     Ok(())
 }
 
+// A row is printed as it is asked for, and nothing of it is kept.
 fn show_row<P: Programme>(rt: &HostRuntime, p: &P, row: usize) -> anyhow::Result<()> {
-    let terms: Vec<(usize, i64)> = (0..p.variable_count())
+    let mut terms = (0..p.variable_count())
         .map(|v| (v, p.coefficient(row, v)))
         .filter(|(_, number)| *number != 0)
-        .collect(rt.alloc())?;
-    if terms.is_empty() {
+        .peekable();
+    if terms.peek().is_none() {
         return Ok(());
     }
     print!(rt; "  row {row}:")?;
-    for (v, number) in &terms {
+    for (v, number) in terms {
         print!(rt; " {number} at {v},")?;
     }
     println!(rt; " at most {}", p.right_side(row))?;

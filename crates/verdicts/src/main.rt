@@ -18,17 +18,16 @@ fn market_of(rt: &HostRuntime, name: &str) -> anyhow::Result<ClosedMarket> {
     Ok(book.close())
 }
 
-// Judges the clearings over one market.
+// Judges the clearings over one market, which is read anew for each: what is wrong with it is told before each verdict.
 fn judge_cases(rt: &HostRuntime, cases: &Cases) -> anyhow::Result<()> {
-    let market = market_of(rt, cases.market)?;
+    let name = cases.market;
     for clearing in cases.clearings {
+        let market = market_of(rt, name)?;
         let file = fs::read(rt, clearing)?;
         let mut scratch = [0; NUMBERS];
-        let verdict = judge_file(&market, file.as_slice(), &mut scratch);
-        print!(rt; "{} {clearing}: ", cases.market)?;
-        match verdict {
-            Ok(worth) => println!(rt; "{worth}")?,
-            Err(refusal) => println!(rt; "refused {refusal}")?,
+        match judge_file(&market, file.as_slice(), &mut scratch) {
+            Ok(worth) => println!(rt; "{name} {clearing}: {worth}")?,
+            Err(refusal) => println!(rt; "{name} {clearing}: refused {refusal}")?,
         }
     }
     Ok(())

@@ -6,6 +6,7 @@ ghost use Rattle.auction.specs.Orders.{buy_value};
 ghost use Rattle.auction.specs.Views.{accepted_market};
 
 use super::AcceptanceProgramme;
+use crate::orders::value_of;
 use crate::rows::{Measure, Row};
 use crate::sales::Sale;
 use market::{LINES, Order, Role};
@@ -37,7 +38,7 @@ impl<'a> AcceptanceProgramme<'a> {
         ensures { result ≡ buy_value (accepted_market self.now) i }
     {
         let buy = self.market.buy(i);
-        i64::from(buy.price) * i64::from(buy.quantity)
+        value_of(buy.price, u32::from(buy.quantity))
     }
 
     // What an order is worth for each of its parts, negated for a sell order.

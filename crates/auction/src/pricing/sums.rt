@@ -15,9 +15,9 @@ use numbers::sum_of;
 impl<'a> PriceProgramme<'a> {
     // Of a sell order, whose parts are those of a variable. The sums ask for numbers of baskets, children and substitutes below
     // 96: those alone have their parts among the first 256 numbers, and an `Order` in the place of the variable would ask the same.
-    fn weighed(&self, measure: Measure, sale: Sale, v: usize) -> i64
+    fn weighed(&self, measure: Measure, sale: &Sale, v: usize) -> i64
         requires { v < 256 }
-        ensures is { result ≡ offered sale.window sale.quantities sale.price measure *ℤ held_parts self.now v }
+        ensures is { result ≡ offered sale.now.window sale.now.quantities.now sale.now.price measure *ℤ held_parts self.now v }
         ensures small { Within 9998900010000 result }
     {
         sale.measured(measure) * self.part(v)
@@ -28,7 +28,7 @@ impl<'a> PriceProgramme<'a> {
         requires { b < 96 }
         ensures { Term (parent_sum (priced_market self.now) (held_parts self.now) measure) 9998900010000 b result }
     {
-        self.weighed(measure, Sale::of_parent(self.market, b), FIRST_PARENT + b)
+        self.weighed(measure, &Sale::of_parent(self.market, b), FIRST_PARENT + b)
     }
 
     // Of a child or substitute.
@@ -36,7 +36,7 @@ impl<'a> PriceProgramme<'a> {
         requires { k < 96 }
         ensures { Term (extra_sum (priced_market self.now) (held_parts self.now) measure) 9998900010000 k result }
     {
-        self.weighed(measure, Sale::of_extra(self.market, k), FIRST_EXTRA + k)
+        self.weighed(measure, &Sale::of_extra(self.market, k), FIRST_EXTRA + k)
     }
 
     // Of a child or substitute, 0 for one of another basket.

@@ -1,6 +1,7 @@
 use Rattle.std.proofs.Common.{sym, ◌∙◌, w64, rules}
 use Rattle.std.proofs.lemmas.Int.{to_z-of_z}
 use Rattle.records.specs.Readers.{place_of}
+use Rattle.bound.specs.Sheets.{sheeted}
 use Rattle.bound.specs.Checks.{finished}
 use Rattle.bound.proofs.Paths.{started}
 use Rattle.bound.proofs.Sound.{finished_checked}
@@ -15,6 +16,6 @@ returns g c =
     let over = c.over.ensures in
     let opened = c.in_ok-reader.ensures.opened in
     let told = c.in_ok-bound.ensures in
-    let start = started (λ s. table s.below.now) t file c.of-sheet.result c.over.result c.in_ok-reader.reader.reader c.of-sheet.ensures.table over.below over.held opened.1 opened.2 in
+    let start = started (λ s. sheeted (table s.below.now) s.lines) t file c.of-sheet.result c.over.result c.in_ok-reader.reader.reader c.of-sheet.ensures.table over.below over.held opened.1 opened.2 in
     c.finish.ensures ∙ (λ i. finished ((told.file ∙ opened.1) i) (to_z-of_z w64 b (search rules) i) (place_of c.node.new.self.reader.reader))
     ∙ sym (finished_checked t file opened.0 b _ (start ∙ told.gives))
