@@ -10,9 +10,20 @@ use Rattle.rules.specs.Prices.{PriceList, KeepsPrices, gain, basket_extra, baske
 use Rattle.rules.specs.Scratch.{parts_in, prices_in}
 use Rattle.clearing.specs.Marks.{zeros}
 use Rattle.clearing.specs.Verdicts.{Keeps}
+use Rattle.console.specs.declared.held.Held.{Held}
 use Rattle.console.specs.Law.{sized}
 use Rattle.console.specs.Standing.{parts_of, idle}
-use Rattle.console.proofs.Laws.{sized_from}
+use Rattle.console.proofs.Laws.{same_held, sized_from}
+
+-- what a console begins with is the empty clearing
+zeros_of : (n : ℕ) (xs : List ℤ) → length xs ≡ n → ((i : ℕ) (d : ℤ) → i < n → get_or xs i d ≡ pos 0) → xs ≡ replicate n (pos 0)
+zeros_of zero [] l z = refl
+zeros_of zero (x ∷ xs) l z = absurd (omega arith)
+zeros_of (suc n) [] l z = absurd (omega arith)
+zeros_of (suc n) (x ∷ xs) l z = let e = z 0 x (omega arith) in let t = zeros_of n xs (omega arith) (λ i d h. z (suc i) d (omega arith)) in cc
+
+pub default_idle : (h : Held) → length h.numbers ≡ 448 → ((i : ℕ) (d : ℤ) → i < 448 → get_or h.numbers i d ≡ pos 0) → h.welfare ≡ pos 0 → h.cost ≡ pos 0 → h ≡ idle
+default_idle h l z w k = same_held h idle (zeros_of 448 h.numbers l z) w k
 
 -- nothing anywhere
 abbrev nil : ℕ → ℤ

@@ -4,12 +4,13 @@ use Rattle.market.specs.View.{closed_of}
 use Rattle.console.specs.declared.held.Held.{Held}
 use Rattle.console.specs.Clears.{Kept}
 use Rattle.console.specs.Law.{sized}
-use Rattle.console.proofs.Idle.{idle_keeps, idle_sized}
+use Rattle.console.proofs.Idle.{default_idle, idle_keeps, idle_sized}
 use Rattle.console.proofs.state.Console.closing.Goals as goal
 
 pub invariant_of-result : goal.invariant_of-result
 invariant_of-result c =
-    let e = sym c.default.ensures in
+    let d = c.default.ensures in
+    let e = sym (default_idle c.default.result d.0.long d.0.at d.1.0 d.1.1) in
     let m = closed_of c.close.result in record {
       rivals = λ r. refl;
       prices = λ r. refl;
@@ -19,4 +20,4 @@ invariant_of-result c =
     }
 
 pub returns : goal.returns
-returns c = let e = c.default.ensures in cc
+returns c = let d = c.default.ensures in let e = default_idle c.default.result d.0.long d.0.at d.1.0 d.1.1 in cc
